@@ -1,0 +1,6 @@
+pub mod Says
+pub mod SaysLaws
+pub mod Tests
+pub mod Orders
+pub mod Divisor
+pub mod DivisorLaws

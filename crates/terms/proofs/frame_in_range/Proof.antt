@@ -1,0 +1,35 @@
+-- `terms::frame_in_range` meets its contract: each test decides one fact of the record.
+-- Assumes nothing.
+use borrow.Author.Needs.{needs}
+use Rattle.laws.specs.SaysLaws.{granted, refused}
+use Rattle.terms.proofs.frame_in_range.Statement.{statement}
+use Rattle.terms.proofs.frame_in_range.Tie as tie
+
+returns : tie.Need-returns
+returns c = search needs
+
+returns-2 : tie.Need-returns-2
+returns-2 c = search needs
+
+is-repetition-requires : tie.Need-is-repetition-requires
+is-repetition-requires c κs = search needs
+
+returns-3 : tie.Need-returns-3
+returns-3 c = λ h. refused (c .before .is-repetition .result) (c .before .is-repetition .ensures) (c .if3 .taken) (h .repetition)
+
+returns-4 : tie.Need-returns-4
+returns-4 c = search needs
+
+returns-5 : tie.Need-returns-5
+returns-5 c =
+    record {
+      slot = search needs;
+      repetition =
+          granted (c .before .before .before .is-repetition .result) (c .before .before .before .is-repetition .ensures)
+          (c .before .before .if3 .left);
+      base = search needs;
+    }
+
+pub frame-in-range-spec : {M : Type 1} → statement M
+frame-in-range-spec =
+    tie.close (tie.spec returns returns-2 is-repetition-requires returns-3 returns-4 returns-5)

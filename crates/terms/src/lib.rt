@@ -1,0 +1,191 @@
+// 01's settings, signals, frames and answers as values, and the routines that judge and number them.
+// Promises: each judge is exact in both directions; an answer's number and place are those of 01's table.
+ghost use mathlib.Core.Path.{_≡_};
+ghost use Rattle.laws.specs.Says.{Says};
+ghost use Rattle.terms.specs.Ranges.{LowestOutOfRange, SignalInRange, Repetition, FrameInRange};
+ghost use Rattle.terms.specs.Answers.{numberOf, placeOf, packedOf};
+
+// The settings words 2 to 6 in order: cycle length, slot length, number of slots, packing time, payload.
+pub struct Settings {
+    pub cycle: u32,
+    pub slot: u32,
+    pub slots: u32,
+    pub packing: u32,
+    pub payload: u32,
+}
+
+// A signal's five words; `bound` is its freshness bound.
+pub struct Signal {
+    pub unit: u32,
+    pub period: u32,
+    pub offset: u32,
+    pub size: u32,
+    pub bound: u32,
+}
+
+// Where and when a signal is sent.
+pub struct Frame {
+    pub slot: u32,
+    pub repetition: u32,
+    pub base: u32,
+}
+
+// 01's numbers 0 to 11, in order; what a case holds is its place.
+pub enum Answer {
+    Done(u32),
+    Length,
+    Check(u32),
+    Kind(u32),
+    Count,
+    Zero(u32),
+    Setting(u32),
+    Field(u32),
+    Bound(u32),
+    Slots(u32),
+    Room(u32),
+    Taken(u32),
+}
+
+pub fn number(a: Answer) -> u32
+    ensures { λ r. ⌜ r ≡ numberOf a ⌝ }
+{
+    match a {
+        Answer::Done(_) => 0,
+        Answer::Length => 1,
+        Answer::Check(_) => 2,
+        Answer::Kind(_) => 3,
+        Answer::Count => 4,
+        Answer::Zero(_) => 5,
+        Answer::Setting(_) => 6,
+        Answer::Field(_) => 7,
+        Answer::Bound(_) => 8,
+        Answer::Slots(_) => 9,
+        Answer::Room(_) => 10,
+        Answer::Taken(_) => 11,
+    }
+}
+
+pub fn place(a: Answer) -> u32
+    ensures { λ r. ⌜ r ≡ placeOf a ⌝ }
+{
+    match a {
+        Answer::Done(p) => p,
+        Answer::Length => 0,
+        Answer::Check(p) => p,
+        Answer::Kind(p) => p,
+        Answer::Count => 0,
+        Answer::Zero(p) => p,
+        Answer::Setting(p) => p,
+        Answer::Field(p) => p,
+        Answer::Bound(p) => p,
+        Answer::Slots(p) => p,
+        Answer::Room(p) => p,
+        Answer::Taken(p) => p,
+    }
+}
+
+// The 64-bit number that a C caller gets.
+pub fn packed(a: Answer) -> u64
+    ensures { λ r. ⌜ r ≡ packedOf a ⌝ }
+{
+    number(a) as u64 * 4294967296 + place(a) as u64
+}
+
+// The lowest setting word that is out of range, or 0.
+pub fn setting_out_of_range(s: Settings) -> u32
+    ensures { λ r. ⌜ LowestOutOfRange s r ⌝ }
+{
+    if s.cycle < 10 {
+        return 2;
+    }
+    if 16000 < s.cycle {
+        return 2;
+    }
+    if s.slot < 1 {
+        return 3;
+    }
+    if 16000 < s.slot {
+        return 3;
+    }
+    if s.slots < 2 {
+        return 4;
+    }
+    if 128 < s.slots {
+        return 4;
+    }
+    if s.cycle < s.slots * s.slot {
+        return 4;
+    }
+    if 16000 < s.packing {
+        return 5;
+    }
+    if s.payload < 1 {
+        return 6;
+    }
+    if 127 < s.payload {
+        return 6;
+    }
+    0
+}
+
+// Whether a signal is in range under settings that are.
+pub fn signal_in_range(s: Settings, x: Signal) -> bool
+    ensures { λ r. ⌜ Says (SignalInRange s x) r ⌝ }
+{
+    if x.unit < 1 {
+        return false;
+    }
+    if 255 < x.unit {
+        return false;
+    }
+    if x.period < 1 {
+        return false;
+    }
+    if 100000000 < x.period {
+        return false;
+    }
+    if x.period <= x.offset {
+        return false;
+    }
+    if x.size < 1 {
+        return false;
+    }
+    if 16 * (s.payload as u64) < x.size as u64 {
+        return false;
+    }
+    if x.bound < 1 {
+        return false;
+    }
+    if x.period < x.bound {
+        return false;
+    }
+    true
+}
+
+// Whether a number is one of the seven repetitions: they are the divisors of 64.
+pub fn is_repetition(r: u32) -> bool
+    ensures { λ b. ⌜ Says (Repetition r) b ⌝ }
+{
+    if r == 0 {
+        return false;
+    }
+    64 % r == 0
+}
+
+pub fn frame_in_range(s: Settings, f: Frame) -> bool
+    ensures { λ r. ⌜ Says (FrameInRange s f) r ⌝ }
+{
+    if f.slot < 1 {
+        return false;
+    }
+    if s.slots < f.slot {
+        return false;
+    }
+    if !is_repetition(f.repetition) {
+        return false;
+    }
+    if f.repetition <= f.base {
+        return false;
+    }
+    true
+}

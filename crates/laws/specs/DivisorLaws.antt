@@ -63,6 +63,10 @@ divides-antisymmetric a b p q = ⊎-elim none (λ h. ⊎-elim none′ (both h) (
 pub gcd-unique : (a b g h : ℕ) → IsGcd a b g → IsGcd a b h → g ≡ h
 gcd-unique a b g h p q = divides-antisymmetric g h (q .greatest g (p .left) (p .right)) (p .greatest h (q .left) (q .right))
 
+-- the greatest common divisor with a number above 0 is above 0
+pub gcd-positive : (a b g : ℕ) → IsGcd a b g → 0 < b → 0 < g
+gcd-positive a b g p h = divisor-positive g b (p .right) h
+
 pub gcd-zero : (a : ℕ) → IsGcd a 0 a
 gcd-zero a = record { left = divides-self a; right = divides-zero a; greatest = λ d l r. l }
 
@@ -123,6 +127,9 @@ Ahead a b g = (x y : ℕ) × (x * a ≡ y * b + g)
 ahead-of : (a b g : ℕ) → Balance (suc a) (suc b) g → Ahead (suc a) (suc b) g
 unfolding Balance
 ahead-of a b g (p, q, r, s, e) = (r + s * suc b + p * b, q + p * suc a + s * a, omega (arith, e))
+
+pub gcd-exists : (a b : ℕ) → (g : ℕ) × IsGcd a b g
+gcd-exists a b = let found = euclid b a b (le-refl b) in (found .0, found .1)
 
 balance-of : (a b g : ℕ) → IsGcd a b g → Balance a b g
 balance-of a b g p = from (euclid b a b (le-refl b))

@@ -4,3 +4,4 @@ pub mod Tests
 pub mod Orders
 pub mod Divisor
 pub mod DivisorLaws
+pub mod RemainderLaws

@@ -1,5 +1,7 @@
 -- The ranges of "Settings and signals" and of a frame, as facts in 01's order, and which setting word number 6 names.
 use mathlib.Core.Path.{_≡_}
+use mathlib.Core.List.{List, [], _∷_}
+use mathlib.Core.Logic.{_⊎_}
 use Prim.Native.Nat.{ℕ, _*_, _^_, _≤_, _<_}
 use Rattle.terms.specs.declared.Settings.{Settings}
 use Rattle.terms.specs.declared.Signal.{Signal}
@@ -9,37 +11,31 @@ use Rattle.terms.specs.declared.Frame.{Frame}
 abbrev pub Between : ℕ → ℕ → ℕ → Type 0
 Between low high x = (low ≤ x) × (x ≤ high)
 
--- setting words 2 to 6 are in range
-abbrev pub Word2 : Settings → Type 0
-Word2 s = Between 10 16000 (s .cycle)
+-- 01's table: the setting words, and what is asked of each
+abbrev pub settingRanges : Settings → List (ℕ × Type 0)
+settingRanges s =
+    (2, Between 10 16000 (s .cycle))
+    ∷ (3, Between 1 16000 (s .slot))
+    ∷ (4, Between 2 128 (s .slots) × (s .slots * s .slot ≤ s .cycle))
+    ∷ (5, s .packing ≤ 16000)
+    ∷ (6, Between 1 127 (s .payload))
+    ∷ []
 
-abbrev pub Word3 : Settings → Type 0
-Word3 s = Between 1 16000 (s .slot)
+-- every range of a list holds
+abbrev pub AllHold : List (ℕ × Type 0) → Type 0
+AllHold [] = Unit {0}
+AllHold (r ∷ rs) = r .1 × AllHold rs
 
-abbrev pub Word4 : Settings → Type 0
-Word4 s = (2 ≤ s .slots) × (s .slots ≤ 128) × (s .slots * s .slot ≤ s .cycle)
+-- w is the word of the first range that does not hold, or 0 where all hold
+abbrev pub FirstFailing : List (ℕ × Type 0) → ℕ → Type 0
+FirstFailing [] w = w ≡ 0
+FirstFailing (r ∷ rs) w = ((r .1 → ⊥) × (w ≡ r .0)) ⊎ (r .1 × FirstFailing rs w)
 
-abbrev pub Word5 : Settings → Type 0
-Word5 s = s .packing ≤ 16000
+abbrev pub SettingsInRange : Settings → Type 0
+SettingsInRange s = AllHold (settingRanges s)
 
-abbrev pub Word6 : Settings → Type 0
-Word6 s = Between 1 127 (s .payload)
-
-pub record SettingsInRange (s : Settings) : Type 0 where
-  pub cycle : Word2 s
-  pub slot : Word3 s
-  pub slots : Word4 s
-  pub packing : Word5 s
-  pub payload : Word6 s
-
--- the number is the lowest setting word out of range, or 0 where there is none
-pub data LowestOutOfRange (s : Settings) : ℕ → Type 0 where
-  none : SettingsInRange s → LowestOutOfRange s 0
-  at2 : (Word2 s → ⊥) → LowestOutOfRange s 2
-  at3 : Word2 s → (Word3 s → ⊥) → LowestOutOfRange s 3
-  at4 : Word2 s → Word3 s → (Word4 s → ⊥) → LowestOutOfRange s 4
-  at5 : Word2 s → Word3 s → Word4 s → (Word5 s → ⊥) → LowestOutOfRange s 5
-  at6 : Word2 s → Word3 s → Word4 s → Word5 s → (Word6 s → ⊥) → LowestOutOfRange s 6
+abbrev pub LowestOutOfRange : Settings → ℕ → Type 0
+LowestOutOfRange s w = FirstFailing (settingRanges s) w
 
 -- a signal under settings s
 pub record SignalInRange (s : Settings) (x : Signal) : Type 0 where

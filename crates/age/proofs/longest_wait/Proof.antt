@@ -1,0 +1,46 @@
+-- `age::longest_wait` meets its contract, by the law that takes the longest wait from the top down.
+-- Assumes nothing.
+use Prim.Native.Nat.{_-_, _%_}
+use native.Mathlib.Nat.{mod-le, mod-lt}
+use native.Mathlib.Omega.{arith}
+use borrow.Author.Needs.{needs}
+use Rattle.age.specs.FormulaLaws.{longest-from-top}
+use Rattle.age.proofs.longest_wait.Statement.{statement}
+use Rattle.age.proofs.longest_wait.Tie as tie
+
+returns : tie.Need-returns
+returns c = search needs
+
+rem-d : tie.Need-rem-d
+rem-d c = search needs
+
+returns-2 : tie.Need-returns-2
+returns-2 c = search needs
+
+sub-top : tie.Need-sub-top
+sub-top c = search needs
+
+sub-result : tie.Need-sub-result
+sub-result c = search needs
+
+rem-result : tie.Need-rem-result
+rem-result c = search needs
+
+sub-result-2 : tie.Need-sub-result-2
+sub-result-2 c =
+    let d = c .before .before .args .n % c .before .before .args .g in
+    omega (arith, mod-le (c .before .before .args .limit - 1 - d) (c .before .before .args .g))
+
+returns-3 : tie.Need-returns-3
+returns-3 c =
+    let g = c .before .before .args .g in
+    let n = c .before .before .args .n in
+    record {
+      inside = λ h k. longest-from-top (c .before .before .args .limit) g (n % g) (mod-lt n h) k;
+      outside = λ o. absurd (o (omega arith) (omega arith));
+    }
+
+pub longest-wait-spec : {M : Type 1} → statement M
+longest-wait-spec =
+    tie.close
+    (tie.spec returns rem-d returns-2 sub-top sub-result rem-result sub-result-2 returns-3)

@@ -1,19 +1,15 @@
 -- What the ranges say of a frame's numbers: its first start lies before its span ends, and all are small.
-use mathlib.Core.Path.{_≡_, sym, subst}
-use Prim.Native.Nat.{ℕ, _+_, _*_, _-_, _^_, _≤_, _<_}
+use Prim.Native.Nat.{ℕ, _+_, _*_, _-_, _≤_, _<_}
 use native.Mathlib.Nat.{mul-le-mul-right, mul-le-mul}
 use native.Mathlib.Omega.{arith}
-use lib.Pow.{pow-mono}
+use Rattle.terms.specs.RepetitionLaws.{repetition-most}
 use Rattle.terms.specs.declared.Settings.{Settings}
 use Rattle.terms.specs.declared.Signal.{Signal}
 use Rattle.terms.specs.declared.Frame.{Frame}
-use Rattle.terms.specs.Ranges.{SettingsInRange, FrameInRange, Repetition}
+use Rattle.terms.specs.Ranges.{FrameInRange}
 use Rattle.age.specs.Age.{firstStart, spanOf}
 use Rattle.age.specs.Given.{InRange}
 use Rattle.age.specs.Bounds.{Bounded}
-
-pub repetition-most : (R : ℕ) → Repetition R → R ≤ 64
-repetition-most R (e, h, p) = subst (λ (n : ℕ). n ≤ 64) (sym p) (pow-mono h)
 
 -- a slot of the segment in a cycle below the repetition starts before the span ends
 pub first-below-span :
@@ -40,5 +36,5 @@ frame-bounded s x f r =
       span-most = mul-le-mul {m₂ = 16000} (repetition-most (f .repetition) (r .frame .repetition)) (omega arith);
       packing-most = omega arith;
       slot-most = omega arith;
-      period-least = r .signal .period .0;
+      period-least = r .valid .signal .period .0;
     }

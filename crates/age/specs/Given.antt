@@ -4,13 +4,12 @@ use Prim.Native.Nat.{ℕ, _%_, _<_}
 use Rattle.terms.specs.declared.Settings.{Settings}
 use Rattle.terms.specs.declared.Signal.{Signal}
 use Rattle.terms.specs.declared.Frame.{Frame}
-use Rattle.terms.specs.Ranges.{SettingsInRange, SignalInRange, FrameInRange}
+use Rattle.terms.specs.Ranges.{Valid, FrameInRange}
 use Rattle.age.specs.Age.{Age}
 use Rattle.age.specs.Formula.{Longest}
 
 pub record InRange (s : Settings) (x : Signal) (f : Frame) : Type 0 where
-  pub settings : SettingsInRange s
-  pub signal : SignalInRange s x
+  pub valid : Valid s x
   pub frame : FrameInRange s f
 
 -- "Asked of one frame alone, the age is 0 exactly where a setting, the signal or the frame is out of range."

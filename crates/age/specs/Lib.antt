@@ -6,3 +6,4 @@ pub mod FormulaLaws
 pub mod AgeLaws
 pub mod SpanLaws
 pub mod FrameLaws
+pub mod GivenLaws

@@ -36,10 +36,7 @@ fn by_formula(first: u32, span: u32, packing: u32, slot: u32, offset: u32, perio
 fn in_range(s: Settings, x: Signal, f: Frame) -> bool
     ensures { λ r. ⌜ Says (InRange s x f) r ⌝ }
 {
-    if terms::setting_out_of_range(s) != 0 {
-        return false;
-    }
-    if !terms::signal_in_range(s, x) {
+    if !terms::valid(s, x) {
         return false;
     }
     if !terms::frame_in_range(s, f) {

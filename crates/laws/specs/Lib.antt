@@ -1,7 +1,12 @@
 pub mod Says
 pub mod SaysLaws
 pub mod Tests
+pub mod Stable
 pub mod Orders
+pub mod Numbers
+pub mod NumbersLaws
+pub mod Along
+pub mod AlongLaws
 pub mod Divisor
 pub mod DivisorLaws
 pub mod RemainderLaws

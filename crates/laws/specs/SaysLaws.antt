@@ -9,6 +9,20 @@ pub says : {P : Type 0} (b : Bool) → (b ≡ true → P) → (b ≡ false → P
 says true holds fails = holds refl
 says false holds fails = fails refl
 
+-- what a flag says of one fact it says of an equivalent one
+pub says-same : {P Q : Type 0} (b : Bool) → (P → Q) → (Q → P) → Says P b → Says Q b
+says-same true to back s = to s
+says-same false to back s = λ q. s (back q)
+
+-- `if flag` taken, and left
+pub said : {P : Type 0} (b : Bool) → Says P b → b ≡ true → P
+said true s e = s
+said false s e = absurd (false≢true e)
+
+pub denied : {P : Type 0} (b : Bool) → Says P b → b ≡ false → P → ⊥
+denied true s e = absurd (true≢false e)
+denied false s e = s
+
 -- `if !flag` left, and taken
 pub granted : {P : Type 0} (b : Bool) → Says P b → not b ≡ false → P
 granted true s e = s

@@ -1,7 +1,6 @@
 -- The seven repetitions are the divisors of 64: one computed test each way.
 -- Assumes nothing.
-use mathlib.Core.Path.{_≡_, _∙_, sym, ap, subst}
-use lib.Pow.{pow-pos}
+use mathlib.Core.Path.{_≡_, _∙_, ap}
 use mathlib.Core.Bool.{Bool, true, cond}
 use mathlib.Core.Logic.{dite}
 use Prim.Native.Nat.{ℕ, _^_, _%_, _≤_, _<_}
@@ -51,6 +50,3 @@ power-divides e h = eqb→eq (64 % (2 ^ e)) 0 (at divides 7 all-divide e (omega 
 
 pub repetition-divides : (r : ℕ) → Repetition r → 64 % r ≡ 0
 repetition-divides r (e, h, p) = ap (λ (n : ℕ). 64 % n) p ∙ power-divides e h
-
-pub repetition-positive : (r : ℕ) → Repetition r → 0 < r
-repetition-positive r (e, h, p) = subst (λ (n : ℕ). 0 < n) (sym p) (pow-pos e)

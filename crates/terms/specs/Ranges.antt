@@ -45,6 +45,11 @@ pub record SignalInRange (s : Settings) (x : Signal) : Type 0 where
   pub size : Between 1 (16 * s .payload) (x .size)
   pub bound : Between 1 (x .period) (x .bound)
 
+-- the settings, and a signal under them
+pub record Valid (s : Settings) (x : Signal) : Type 0 where
+  pub settings : SettingsInRange s
+  pub signal : SignalInRange s x
+
 -- R is one of 1, 2, 4, 8, 16, 32, 64
 abbrev pub Repetition : ℕ → Type 0
 Repetition R = (e : ℕ) × (e ≤ 6) × (R ≡ 2 ^ e)

@@ -2,7 +2,7 @@
 // Promises: each judge is exact in both directions; an answer's number and place are those of 01's table.
 ghost use mathlib.Core.Path.{_≡_};
 ghost use Rattle.laws.specs.Says.{Says};
-ghost use Rattle.terms.specs.Ranges.{LowestOutOfRange, SignalInRange, Repetition, FrameInRange};
+ghost use Rattle.terms.specs.Ranges.{LowestOutOfRange, SignalInRange, Valid, Repetition, FrameInRange};
 ghost use Rattle.terms.specs.Answers.{numberOf, placeOf, packedOf};
 
 // The settings words 2 to 6 in order: cycle length, slot length, number of slots, packing time, payload.
@@ -128,7 +128,7 @@ pub fn setting_out_of_range(s: Settings) -> u32
     0
 }
 
-// Whether a signal is in range under settings that are.
+// Whether a signal is in range under the settings' payload.
 pub fn signal_in_range(s: Settings, x: Signal) -> bool
     ensures { λ r. ⌜ Says (SignalInRange s x) r ⌝ }
 {
@@ -157,6 +157,19 @@ pub fn signal_in_range(s: Settings, x: Signal) -> bool
         return false;
     }
     if x.period < x.bound {
+        return false;
+    }
+    true
+}
+
+// Whether the settings are in range, and the signal under them.
+pub fn valid(s: Settings, x: Signal) -> bool
+    ensures { λ r. ⌜ Says (Valid s x) r ⌝ }
+{
+    if setting_out_of_range(s) != 0 {
+        return false;
+    }
+    if !signal_in_range(s, x) {
         return false;
     }
     true

@@ -3,7 +3,8 @@
 use native.Mathlib.Omega.{arith}
 use lib.Dec.{lit<}
 use Rattle.laws.specs.Orders.{product-below}
-use Rattle.age.specs.FrameLaws.{repetition-most, FrameBounded, frame-bounded}
+use Rattle.terms.specs.RepetitionLaws.{repetition-most}
+use Rattle.age.specs.FrameLaws.{FrameBounded, frame-bounded}
 use borrow.Author.Needs.{needs}
 use Rattle.age.proofs.age_in_range.Statement.{statement}
 use Rattle.age.proofs.age_in_range.Tie as tie

@@ -1,0 +1,52 @@
+-- `rule::keeps` meets its contract: the search over plain numbers, with one divisor for all places, decides it.
+-- Assumes nothing.
+use native.Mathlib.Nat.{mod-lt}
+use native.Mathlib.Omega.{arith}
+use borrow.Author.Needs.{needs}
+use Prim.Native.Nat.{_*_, _<_}
+use Rattle.laws.specs.DivisorLaws.{gcd-positive, divisor-at-most}
+use Rattle.laws.specs.SaysLaws.{says-same}
+use Rattle.terms.specs.Ranges.{Between}
+use Rattle.rule.specs.RuleLaws.{span-range, searched-keeps, keeps-searched}
+use Rattle.rule.proofs.keeps.Statement.{statement}
+use Rattle.rule.proofs.keeps.Tie as tie
+
+spans : (c : tie.Start) → Between 1 1024000 (c .args .r * c .args .s .cycle)
+spans c = span-range (c .args .s) (c .args .x) (c .pre .0) (c .args .r) (c .pre .1)
+
+mul-span : tie.Need-mul-span
+mul-span c = let small = spans (c .before) in omega arith
+
+gcd-requires : tie.Need-gcd-requires
+gcd-requires c κs = search needs
+
+rem-ahead : tie.Need-rem-ahead
+rem-ahead c =
+    let a = c .before .before .before .args in
+    gcd-positive (a .x .period) (a .r * a .s .cycle) (c .before .gcd .result) (c .before .gcd .ensures) (spans (c .before .before .before) .0)
+
+sub-ahead : tie.Need-sub-ahead
+sub-ahead c = omega (arith, mod-lt (c .before .before .before .args .x .offset) (rem-ahead c))
+
+add-bases-keep : tie.Need-add-bases-keep
+add-bases-keep c = let small = spans (c .before .before .before .before) in omega arith
+
+bases-keep-requires : tie.Need-bases-keep-requires
+bases-keep-requires c κs =
+    let start = c .before .before .before .before in
+    let small = spans start in
+    let divides = divisor-at-most (c .before .before .gcd .result) (start .args .r * start .args .s .cycle) (c .before .before .gcd .ensures .right) (small .0) in
+    omega arith
+
+returns : tie.Need-returns
+returns c =
+    let start = c .before .before .before .before .before in
+    let g = c .before .before .before .gcd .result in
+    let divisor = c .before .before .before .gcd .ensures in
+    says-same (c .bases-keep .result) (searched-keeps (start .args .s) (start .args .x) (start .pre .0) (start .args .r) g divisor)
+    (keeps-searched (start .args .s) (start .args .x) (start .pre .0) (start .args .r) g divisor) (c .bases-keep .ensures)
+
+pub keeps-spec : {M : Type 1} → statement M
+keeps-spec =
+    tie.close
+    (tie.spec mul-span gcd-requires rem-ahead sub-ahead add-bases-keep bases-keep-requires returns)

@@ -15,7 +15,7 @@ module _ (P : ℕ → Type 0) (n step count : ℕ) where
       record {
         most = omega arith;
         place = omega (arith, p .place);
-        seen = below-more (λ (j : ℕ). P (n + j * step)) k (p .seen) (subst P (p .place) q)
+        seen = below-more (λ (j : ℕ). P (n + j * step)) k (p .seen) (subst P (p .place) q);
       }
 
   pub passed-all : (k at : ℕ) → Passed P n step count k at → count ≤ k → Along P n step count

@@ -1,7 +1,8 @@
 pub mod Says
 pub mod SaysLaws
 pub mod Tests
-pub mod Stable
+pub mod Given
+pub mod GivenLaws
 pub mod Orders
 pub mod Numbers
 pub mod NumbersLaws

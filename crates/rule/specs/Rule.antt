@@ -2,6 +2,7 @@
 use mathlib.Core.Path.{_≡_}
 use mathlib.Core.List.{List, List·Memᴰ}
 use Prim.Native.Nat.{ℕ, _≤_, _<_}
+use Rattle.laws.specs.Given.{Given}
 use Rattle.laws.specs.Numbers.{numbersFrom}
 use Rattle.terms.specs.declared.Settings.{Settings}
 use Rattle.terms.specs.declared.Signal.{Signal}
@@ -25,6 +26,5 @@ pub record Largest (P : ℕ → Type 0) (r : ℕ) : Type 0 where
 
 -- "The signal gets the largest such R." "Asked of one signal, the repetition is 0 exactly where a setting or the signal
 -- is out of range or no R keeps the bound."
-pub record RepetitionGiven (s : Settings) (x : Signal) (r : ℕ) : Type 0 where
-  pub inside : Valid s x → Largest (Keeps s x (segment s)) r
-  pub outside : (Valid s x → ⊥) → r ≡ 0
+abbrev pub RepetitionGiven : Settings → Signal → ℕ → Type 0
+RepetitionGiven s x r = Given (Valid s x) (Largest (Keeps s x (segment s))) r

@@ -11,7 +11,7 @@ use native.Mathlib.Nat.{add-sub-cancel, mul-assoc, mul-pos, mul-le-mul}
 use native.Mathlib.Omega.{arith}
 use Rattle.laws.specs.Divisor.{IsGcd}
 use Rattle.laws.specs.NumbersLaws.{among, within}
-use Rattle.laws.specs.Stable.{equal-by-cases}
+use Rattle.laws.specs.GivenLaws.{given-unique}
 use Rattle.terms.specs.declared.Settings.{Settings}
 use Rattle.terms.specs.declared.Signal.{Signal}
 use Rattle.terms.specs.declared.Frame.{Frame}
@@ -36,11 +36,10 @@ module _ (s : Settings) (x : Signal) (v : Valid s x) where
       first-below-span R (s .cycle) b k (s .slots) (s .slot) l (h .0) (h .1) (omega (arith, v .settings)) (omega (arith, v .settings))
 
   pub span-range : (R : ℕ) → Repetition R → Between 1 1024000 (R * s .cycle)
-  span-range R r =
-      (
-        mul-pos (repetition-positive R r) (omega (arith, v .settings)),
-        mul-le-mul {m₂ = 16000} (repetition-most R r) (omega (arith, v .settings))
-      )
+  span-range R r = (
+    mul-pos (repetition-positive R r) (omega (arith, v .settings)),
+    mul-le-mul {m₂ = 16000} (repetition-most R r) (omega (arith, v .settings)),
+  )
 
   module _ (R g : ℕ) (c : IsGcd (x .period) (R * s .cycle) g) where
     abbrev ahead : ℕ
@@ -70,14 +69,14 @@ module _ (s : Settings) (x : Signal) (v : Valid s x) where
 
   -- "If some R keeps it, every smaller one does."
   pub smaller-keeps :
-    (slots : List ℕ) →
-    ((k : ℕ) → List·Memᴰ k slots → Between 1 (s .slots) k) →
-    (Q R : ℕ) →
-    Repetition Q →
-    Repetition R →
-    Q ≤ R →
-    Keeps s x slots R →
-    Keeps s x slots Q
+      (slots : List ℕ) →
+      ((k : ℕ) → List·Memᴰ k slots → Between 1 (s .slots) k) →
+      (Q R : ℕ) →
+      Repetition Q →
+      Repetition R →
+      Q ≤ R →
+      Keeps s x slots R →
+      Keeps s x slots Q
   smaller-keeps slots inside Q R q r h keeps k b a m l p = from (repetition-multiple Q R q r h)
     where
       from : (n : ℕ) × (R ≡ n * Q) → a ≤ x .bound
@@ -86,18 +85,18 @@ module _ (s : Settings) (x : Signal) (v : Valid s x) where
           let t = v .signal .period .0 in
           let more : R * s .cycle ≡ n * (Q * s .cycle) = ap (λ (i : ℕ). i * s .cycle) e ∙ mul-assoc n Q (s .cycle) in
           let age =
-            age-exists (firstStart s (frame k R b)) (R * s .cycle) (s .packing) (s .slot) (x .offset) (x .period) f t in
+          age-exists (firstStart s (frame k R b)) (R * s .cycle) (s .packing) (s .slot) (x .offset) (x .period) f t in
           let rarer =
-            subst (λ (i : ℕ). IsAge (firstStart s (frame k Q b)) i (s .packing) (s .slot) (x .offset) (x .period) (age .0)) more
-            (age .1) in
+          subst (λ (i : ℕ). IsAge (firstStart s (frame k Q b)) i (s .packing) (s .slot) (x .offset) (x .period) (age .0)) more
+          (age .1) in
           let younger =
-            oftener-younger (firstStart s (frame k Q b)) (Q * s .cycle) n (s .packing) (s .slot) (x .offset) (x .period) a (age .0)
-            (omega arith) p rarer in
+          oftener-younger (firstStart s (frame k Q b)) (Q * s .cycle) n (s .packing) (s .slot) (x .offset) (x .period) a (age .0)
+          (omega arith) p rarer in
           omega (arith, younger, keeps k b (age .0) m (omega arith) (age .1))
 
   -- equation 2: "such an R times the cycle length never exceeds the period"
   pub keeps-within-period :
-    (slots : List ℕ) (k R : ℕ) → List·Memᴰ k slots → Between 1 (s .slots) k → 0 < R → Keeps s x slots R → R * s .cycle ≤ x .period
+      (slots : List ℕ) (k R : ℕ) → List·Memᴰ k slots → Between 1 (s .slots) k → 0 < R → Keeps s x slots R → R * s .cycle ≤ x .period
   keeps-within-period slots k R m h l keeps =
       let f = first-below k R 0 h l in
       let t = v .signal .period .0 in
@@ -107,10 +106,10 @@ module _ (s : Settings) (x : Signal) (v : Valid s x) where
 
 -- a higher bound keeps what a lower one keeps
 pub raised-keeps :
-  (s : Settings) (x : Signal) (bound : ℕ) (slots : List ℕ) (R : ℕ) →
-  x .bound ≤ bound →
-  Keeps s x slots R →
-  Keeps s (record { unit = x .unit; period = x .period; offset = x .offset; size = x .size; bound = bound }) slots R
+    (s : Settings) (x : Signal) (bound : ℕ) (slots : List ℕ) (R : ℕ) →
+    x .bound ≤ bound →
+    Keeps s x slots R →
+    Keeps s (record { unit = x .unit; period = x .period; offset = x .offset; size = x .size; bound = bound }) slots R
 raised-keeps s x bound slots R h keeps k b a m l p = omega (arith, keeps k b a m l p)
 
 -- what keeps more gets no smaller repetition
@@ -123,9 +122,8 @@ largest-unique P q r l m =
     omega (arith, largest-grows P P (λ R p. p) q r l m, largest-grows P P (λ R p. p) r q m l)
 
 pub repetition-given-unique : (s : Settings) (x : Signal) (q r : ℕ) → RepetitionGiven s x q → RepetitionGiven s x r → q ≡ r
-repetition-given-unique s x q r l m =
-    equal-by-cases (Valid s x) q r (λ v. largest-unique (Keeps s x (segment s)) q r (l .inside v) (m .inside v))
-    (λ n. l .outside n ∙ sym (m .outside n))
+repetition-given-unique s x =
+    given-unique (Valid s x) (Largest (Keeps s x (segment s))) (largest-unique (Keeps s x (segment s)))
 
 -- how far a search from the largest down has come: r is the next to try, or 0, and none above it has P
 pub record Left (P : ℕ → Type 0) (r : ℕ) : Type 0 where

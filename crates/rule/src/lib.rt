@@ -5,7 +5,8 @@ ghost use Rattle.laws.specs.Says.{Says};
 ghost use Rattle.terms.specs.Ranges.{Valid, Repetition};
 ghost use Rattle.rule.specs.Rule.{Keeps, segment, Largest, RepetitionGiven};
 ghost use Rattle.rule.specs.Waits.{SlotsKept, BasesKept};
-use terms::{Settings, Signal};
+use terms::Settings;
+use terms::Signal;
 
 // Whether the bound is kept at every slot of one base cycle.
 fn slots_keep(limit: u32, g: u32, slot: u32, bound: u32, slots: u32, n: u32) -> bool
@@ -25,7 +26,16 @@ fn slots_keep(limit: u32, g: u32, slot: u32, bound: u32, slots: u32, n: u32) -> 
 }
 
 // Whether the bound is kept at every slot of every base cycle.
-fn bases_keep(limit: u32, g: u32, slot: u32, bound: u32, slots: u32, cycle: u32, bases: u32, n: u32) -> bool
+fn bases_keep(
+    limit: u32,
+    g: u32,
+    slot: u32,
+    bound: u32,
+    slots: u32,
+    cycle: u32,
+    bases: u32,
+    n: u32,
+) -> bool
     requires { ⌜ (limit ≤ 1040000) × (slot ≤ 16000) × (slots * slot ≤ cycle) × (n + bases * cycle ≤ 2900000) × (cycle ≤ 16000) ⌝ }
     ensures { λ r. ⌜ Says (BasesKept limit g slot bound slots cycle bases n) r ⌝ }
 {
@@ -49,7 +59,16 @@ fn keeps(s: Settings, x: Signal, r: u32) -> bool
     let span = r * s.cycle;
     let g = laws::gcd(x.period, span);
     let ahead = g - x.offset % g;
-    bases_keep(s.packing + span, g, s.slot, x.bound, s.slots, s.cycle, r, ahead)
+    bases_keep(
+        s.packing + span,
+        g,
+        s.slot,
+        x.bound,
+        s.slots,
+        s.cycle,
+        r,
+        ahead,
+    )
 }
 
 fn largest_that_keeps(s: Settings, x: Signal) -> u32

@@ -21,14 +21,13 @@ exponent-order d e h = dite (decLe d e) (λ k. k) (λ k. absurd (omega (arith, p
 
 pub repetition-multiple : (Q R : ℕ) → Repetition Q → Repetition R → Q ≤ R → (n : ℕ) × (R ≡ n * Q)
 repetition-multiple Q R (d, i, p) (e, j, q) h =
-    let order : d ≤ e = exponent-order d e (omega arith) in
-    (
+    let order : d ≤ e = exponent-order d e (omega arith) in (
       2 ^ (e - d),
       q
-      ∙ ap (λ (n : ℕ). 2 ^ n) (sym (add-sub-of-le order))
-      ∙ pow-add 2 d (e - d)
-      ∙ mul-comm (2 ^ d) (2 ^ (e - d))
-      ∙ ap (λ (n : ℕ). 2 ^ (e - d) * n) (sym p)
+          ∙ ap (λ (n : ℕ). 2 ^ n) (sym (add-sub-of-le order))
+          ∙ pow-add 2 d (e - d)
+          ∙ mul-comm (2 ^ d) (2 ^ (e - d))
+          ∙ ap (λ (n : ℕ). 2 ^ (e - d) * n) (sym p),
     )
 
 pub half-repetition : (R : ℕ) → Repetition R → (R / 2 ≡ 0) ⊎ Repetition (R / 2)

@@ -1,8 +1,10 @@
 -- `age::age` meets its contract: the definition's age in range, and 0 elsewhere.
 -- Assumes nothing.
-use mathlib.Core.Path.{refl}
-use Rattle.laws.specs.SaysLaws.{granted, refused}
 use borrow.Author.Needs.{needs}
+use Rattle.laws.specs.GivenLaws.{given-inside, given-outside}
+use Rattle.laws.specs.SaysLaws.{granted, refused}
+use Rattle.age.specs.Age.{Age}
+use Rattle.age.specs.Given.{InRange}
 use Rattle.age.proofs.age.Statement.{statement}
 use Rattle.age.proofs.age.Tie as tie
 
@@ -11,16 +13,19 @@ in-range-requires c κs = search needs
 
 returns : tie.Need-returns
 returns c =
-    let out = refused (c .before .in-range .result) (c .before .in-range .ensures) (c .if1 .taken) in
-    record { inside = λ r. absurd (out r); outside = λ n. refl }
+    let a = c .before .before .args in
+    given-outside (InRange (a .s) (a .x) (a .f)) (Age (a .s) (a .x) (a .f))
+    (refused (c .before .in-range .result) (c .before .in-range .ensures) (c .if1 .taken))
 
 age-in-range-requires : tie.Need-age-in-range-requires
 age-in-range-requires c κs = granted (c .before .in-range .result) (c .before .in-range .ensures) (c .if1 .left)
 
 returns-2 : tie.Need-returns-2
 returns-2 c =
-    let within = granted (c .before .before .in-range .result) (c .before .before .in-range .ensures) (c .before .if1 .left) in
-    record { inside = λ r. c .age-in-range .ensures; outside = λ n. absurd (n within) }
+    let judged = c .before .before in
+    let a = judged .before .args in
+    given-inside (InRange (a .s) (a .x) (a .f)) (Age (a .s) (a .x) (a .f)) (c .age-in-range .result)
+    (granted (judged .in-range .result) (judged .in-range .ensures) (c .before .if1 .left)) (c .age-in-range .ensures)
 
 pub age-spec : {M : Type 1} → statement M
 age-spec = tie.close (tie.spec in-range-requires returns age-in-range-requires returns-2)

@@ -22,7 +22,7 @@ returns-3 c =
     let v = c .before .before .before in
     record {
       valid = granted (v .valid .result) (v .valid .ensures) (c .before .before .if1 .left);
-      frame = granted (c .before .frame-in-range .result) (c .before .frame-in-range .ensures) (c .if2 .left)
+      frame = granted (c .before .frame-in-range .result) (c .before .frame-in-range .ensures) (c .if2 .left);
     }
 
 pub in-range-spec : {M : Type 1} → statement M

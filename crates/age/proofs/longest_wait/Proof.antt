@@ -36,8 +36,8 @@ returns-3 c =
     let g = c .before .before .args .g in
     let n = c .before .before .args .n in
     record {
-      inside = λ h k. longest-from-top (c .before .before .args .limit) g (n % g) (mod-lt n h) k;
-      outside = λ o. absurd (o (omega arith) (omega arith));
+      inside = λ v. longest-from-top (c .before .before .args .limit) g (n % g) (mod-lt n (v .0)) (v .1);
+      outside = λ o. absurd (o (omega arith));
     }
 
 pub longest-wait-spec : {M : Type 1} → statement M

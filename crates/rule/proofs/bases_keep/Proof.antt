@@ -22,9 +22,9 @@ Kept c = SlotsKept (c .args .limit) (c .args .g) (c .args .slot) (c .args .bound
 
 -- in the loop the next base lies within the row
 within :
-  (c : tie.In-loop Inv-loop μ-loop) →
-  c .before .loop .at + c .before .before .args .cycle
-  ≤ c .before .before .args .n + c .before .before .args .bases * c .before .before .args .cycle
+    (c : tie.In-loop Inv-loop μ-loop) →
+    c .before .loop .at + c .before .before .args .cycle
+    ≤ c .before .before .args .n + c .before .before .args .bases * c .before .before .args .cycle
 within c =
     let l = c .before in
     let a = l .before .args in

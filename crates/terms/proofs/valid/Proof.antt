@@ -28,9 +28,9 @@ returns-3 c =
     let settings = c .before .before .before in
     record {
       settings =
-        settings-granted (settings .before .args .s) (settings .setting-out-of-range .result)
-        (settings .setting-out-of-range .ensures) (omega arith);
-      signal = granted (c .before .signal-in-range .result) (c .before .signal-in-range .ensures) (c .if2 .left)
+          settings-granted (settings .before .args .s) (settings .setting-out-of-range .result)
+          (settings .setting-out-of-range .ensures) (omega arith);
+      signal = granted (c .before .signal-in-range .result) (c .before .signal-in-range .ensures) (c .if2 .left);
     }
 
 pub valid-spec : {M : Type 1} → statement M

@@ -1,6 +1,7 @@
 -- Laws of divisors and of the greatest common divisor: it is unique, Euclid's step keeps it, and it is a difference
 -- of multiples either way round (Bezout without signs).
-use mathlib.Core.Path.{_≡_, _∙_, sym, ap, subst}
+use mathlib.Core.Path.{_≡_, refl, _∙_, sym, ap, subst}
+use mathlib.Core.Bool.{Bool, true, false}
 use mathlib.Core.Logic.{⊎-elim}
 use Prim.Native.Nat.{ℕ, zero, suc, _+_, _*_, _-_, _/_, _%_, _≤_, _<_}
 use native.Mathlib.Nat.{
@@ -14,8 +15,11 @@ use native.Mathlib.Nat.{
   eq-zero-or-pos,
   le-mul-of-pos-right,
   le-refl,
+  pos-of-ne-zero,
 }
 use native.Mathlib.Omega.{arith}
+use lib.Dec.{eqb}
+use borrow.Author.Tests.{eqb-true, eqb-false}
 use Rattle.laws.specs.Divisor.{Divides, IsGcd}
 
 pub divides-self : (n : ℕ) → Divides n n
@@ -103,22 +107,39 @@ balance-step a b g (p, q, r, s, e) = (
   omega (arith, e, ap (λ (z : ℕ). q * z) (mod-add-div' a b), ap (λ (z : ℕ). s * z) (mod-add-div' a b)),
 )
 
--- a greatest common divisor, and how it is a difference
-abbrev Found : ℕ → ℕ → Type 0
-Found a b = (g : ℕ) × IsGcd a b g × Balance a b g
-
-found-end : (a b : ℕ) → b ≡ 0 → Found a b
-unfolding Balance
-found-end a b z = (a, subst (λ (m : ℕ). IsGcd a m a) (sym z) (gcd-zero a), (0, 0, 1, 0, omega arith))
-
-found-step : (a b : ℕ) → Found b (a % b) → Found a b
-found-step a b (g, p, e) = (g, gcd-step a b g p, balance-step a b g e)
-
 -- Euclid's algorithm, with n at least b for the steps that it may take
-euclid : (n a b : ℕ) → b ≤ n → Found a b
-euclid zero a b h = found-end a b (omega arith)
-euclid (suc n) a b h =
-    ⊎-elim (found-end a b) (λ l. found-step a b (euclid n b (a % b) (omega (arith, mod-lt a l)))) (eq-zero-or-pos b)
+unfoldable pub euclid : (n a b : ℕ) → ℕ
+euclid zero a b = a
+euclid (suc n) a b = elim (eqb b 0) [ true ↦ a | false ↦ euclid n b (a % b) ]
+
+-- what it finds is the greatest common divisor, and a difference
+Found : ℕ → ℕ → ℕ → Type 0
+Found a b g = IsGcd a b g × Balance a b g
+
+found-end : (a b : ℕ) → b ≡ 0 → Found a b a
+unfolding Found Balance
+found-end a b z = (subst (λ (m : ℕ). IsGcd a m a) (sym z) (gcd-zero a), (0, 0, 1, 0, omega arith))
+
+found-step : (a b g : ℕ) → Found b (a % b) g → Found a b g
+unfolding Found
+found-step a b g p = (gcd-step a b g (p .0), balance-step a b g (p .1))
+
+euclid-finds : (n a b : ℕ) → b ≤ n → Found a b (euclid n a b)
+unfolding euclid
+euclid-finds zero a b h = found-end a b (omega arith)
+euclid-finds (suc n) a b h = from (eqb b 0) refl (λ l. euclid-finds n b (a % b) (omega (arith, mod-lt a l)))
+  where
+    from :
+        (t : Bool) →
+        eqb b 0 ≡ t →
+        (0 < b → Found b (a % b) (euclid n b (a % b))) →
+        Found a b (elim t [ true ↦ a | false ↦ euclid n b (a % b) ])
+    from true e next = found-end a b (eqb-true b 0 e)
+    from false e next = found-step a b (euclid n b (a % b)) (next (pos-of-ne-zero (eqb-false b 0 e)))
+
+pub euclid-gcd : (a b : ℕ) → IsGcd a b (euclid b a b)
+unfolding Found
+euclid-gcd a b = euclid-finds b a b (le-refl b) .0
 
 -- a multiple of a is g more than a multiple of b
 abbrev pub Ahead : ℕ → ℕ → ℕ → Type 0
@@ -129,13 +150,12 @@ unfolding Balance
 ahead-of a b g (p, q, r, s, e) = (r + s * suc b + p * b, q + p * suc a + s * a, omega (arith, e))
 
 pub gcd-exists : (a b : ℕ) → (g : ℕ) × IsGcd a b g
-gcd-exists a b = let found = euclid b a b (le-refl b) in (found .0, found .1)
+gcd-exists a b = (euclid b a b, euclid-gcd a b)
 
 balance-of : (a b g : ℕ) → IsGcd a b g → Balance a b g
-balance-of a b g p = from (euclid b a b (le-refl b))
-  where
-    from : Found a b → Balance a b g
-    from (h, q, e) = subst (λ (m : ℕ). Balance a b m) (gcd-unique a b h g q p) e
+unfolding Found
+balance-of a b g p =
+    subst (λ (m : ℕ). Balance a b m) (gcd-unique a b (euclid b a b) g (euclid-gcd a b) p) (euclid-finds b a b (le-refl b) .1)
 
 -- Bezout, for numbers above 0; with `gcd-swap` the other way round
 pub bezout : (a b g : ℕ) → 0 < a → 0 < b → IsGcd a b g → Ahead a b g

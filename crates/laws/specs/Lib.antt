@@ -1,6 +1,7 @@
 pub mod Says
 pub mod SaysLaws
 pub mod Tests
+pub mod Shown
 pub mod Given
 pub mod GivenLaws
 pub mod Orders

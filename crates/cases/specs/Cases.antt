@@ -1,0 +1,67 @@
+-- The starred cases of "Examples with numbers", gathered as one list with a single claim.
+use mathlib.Core.List.{List, [], _∷_}
+use Prim.Native.Nat.{ℕ}
+use Rattle.terms.specs.declared.Settings.{Settings}
+use Rattle.terms.specs.declared.Signal.{Signal}
+use Rattle.terms.specs.declared.Frame.{Frame}
+use Rattle.terms.specs.Ranges.{Valid}
+use Rattle.age.specs.Age.{Age}
+use Rattle.age.specs.Given.{InRange}
+use Rattle.rule.specs.Rule.{Keeps, segment, Largest}
+
+-- "Unless said otherwise: cycle 2,500, slot 16, 93 slots, packing 0, payload 8."
+abbrev pub settings : (slots packing : ℕ) → Settings
+settings slots packing = record { cycle = 2500; slot = 16; slots = slots; packing = packing; payload = 8 }
+
+-- "T/O/D" is period, offset, bound
+abbrev pub signal : (period offset bound : ℕ) → Signal
+signal period offset bound = record { unit = 1; period = period; offset = offset; size = 16; bound = bound }
+
+abbrev pub frame : (slot repetition : ℕ) → Frame
+frame slot repetition = record { slot = slot; repetition = repetition; base = 0 }
+
+pub data Case : Type 0 where
+  -- the signal's repetition, 0 where it is refused with number 8
+  gets : Settings → Signal → ℕ → Case
+  -- the signal's age in a frame
+  shows : Settings → Signal → Frame → ℕ → Case
+
+abbrev pub Holds : Case → Type 0
+Holds (gets s x r) = Valid s x × Largest (Keeps s x (segment s)) r
+Holds (shows s x f a) = InRange s x f × Age s x f a
+
+abbrev pub AllHold : List Case → Type 0
+AllHold [] = Unit {0}
+AllHold (c ∷ cs) = Holds c × AllHold cs
+
+abbrev pub starred : List Case
+starred =
+    -- 1
+    gets (settings 93 0) (signal 2500 0 2500) 1
+    ∷ shows (settings 93 0) (signal 2500 0 2500) (frame 93 1) 1488
+    -- 2
+    ∷ gets (settings 93 0) (signal 2500 16 2500) 1
+    ∷ shows (settings 93 0) (signal 2500 16 2500) (frame 1 1) 2500
+    -- 3
+    ∷ gets (settings 93 0) (signal 2500 15 2500) 0
+    ∷ shows (settings 93 0) (signal 2500 15 2500) (frame 1 1) 2501
+    -- 4
+    ∷ gets (settings 93 1) (signal 2500 0 2500) 0
+    ∷ shows (settings 93 1) (signal 2500 0 2500) (frame 1 1) 2516
+    -- 5 and 6
+    ∷ gets (settings 93 100) (signal 10000 2000 9488) 4
+    ∷ gets (settings 93 100) (signal 10000 2000 9487) 2
+    -- 7: the bound 39,488 is kept everywhere, and reached in slot 93
+    ∷ gets (settings 93 100) (signal 50000 2000 50000) 16
+    ∷ gets (settings 93 100) (signal 50000 2000 39488) 16
+    ∷ shows (settings 93 100) (signal 50000 2000 50000) (frame 93 16) 39488
+    -- 8
+    ∷ gets (settings 93 100) (signal 50000 2000 15000) 4
+    -- 9: slot 30 is a bad place
+    ∷ gets (settings 29 0) (signal 2500 472 2500) 1
+    ∷ gets (settings 30 0) (signal 2500 472 2500) 0
+    ∷ shows (settings 30 0) (signal 2500 472 2500) (frame 30 1) 2508
+    ∷ []
+
+unfoldable pub Claim : Type 0
+Claim = AllHold starred

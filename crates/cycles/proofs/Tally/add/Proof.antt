@@ -1,0 +1,42 @@
+-- `cycles::Tally::add` meets its contract: a case of the paper's sentence at each return.
+-- Assumes nothing.
+use native.Mathlib.Nat.{div-le-self}
+use native.Mathlib.Omega.{arith}
+use borrow.Author.Needs.{needs}
+use Rattle.laws.specs.SaysLaws.{granted, refused}
+use Rattle.terms.specs.Ranges.{Repetition}
+use Rattle.cycles.specs.Loads.Tallied.{added, past, other}
+use Rattle.cycles.specs.FrameLaws.{repetition-least}
+use Rattle.cycles.proofs.Tally.add.Statement.{statement}
+use Rattle.cycles.proofs.Tally.add.Tie as tie
+
+is-repetition-requires : tie.Need-is-repetition-requires
+is-repetition-requires c κs = search needs
+
+returns : tie.Need-returns
+returns c = other (refused (c .before .is-repetition .result) (c .before .is-repetition .ensures) (c .if1 .taken))
+
+seven : (c : tie.Else1) → Repetition (c .before .before .args .repetition)
+seven c = granted (c .before .is-repetition .result) (c .before .is-repetition .ensures) (c .if1 .left)
+
+div-more : tie.Need-div-more
+div-more c = omega (arith, repetition-least (seven c))
+
+sub-if2 : tie.Need-sub-if2
+sub-if2 c = omega (arith, div-le-self 64 (c .before .before .args .repetition))
+
+returns-2 : tie.Need-returns-2
+returns-2 c =
+    past (seven (c .before .before)) (omega (arith, div-le-self 64 (c .before .before .before .before .args .repetition)))
+
+add-t6 : tie.Need-add-t6
+add-t6 c = omega (arith, div-le-self 64 (c .before .before .before .before .before .args .repetition))
+
+returns-3 : tie.Need-returns-3
+returns-3 c =
+    added (seven (c .before .before .before))
+    (omega (arith, div-le-self 64 (c .before .before .before .before .before .args .repetition)))
+
+pub add-spec : {M : Type 1} → statement M
+add-spec =
+    tie.close (tie.spec is-repetition-requires returns div-more sub-if2 returns-2 add-t6 returns-3)

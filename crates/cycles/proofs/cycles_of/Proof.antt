@@ -1,0 +1,43 @@
+-- `cycles::cycles_of` meets its contract: a pattern shifted to the base; no cycle is named where the number is no repetition
+-- or the base is not below it.
+-- Assumes nothing.
+use native.Mathlib.Omega.{arith}
+use borrow.Author.Needs.{needs}
+use Rattle.laws.specs.SaysLaws.{granted, refused}
+use Rattle.terms.specs.Ranges.{Repetition}
+use Rattle.cycles.specs.MaskLaws.{mask-none}
+use Rattle.cycles.specs.Frames.{Names}
+use Rattle.cycles.specs.FrameLaws.{repetition-most}
+use Rattle.cycles.proofs.Words.{shifted}
+use Rattle.cycles.proofs.cycles_of.Statement.{statement}
+use Rattle.cycles.proofs.cycles_of.Tie as tie
+
+is-repetition-requires : tie.Need-is-repetition-requires
+is-repetition-requires c κs = search needs
+
+returns : tie.Need-returns
+returns c =
+    let a = c .before .before .args in
+    mask-none (Names (a .repetition) (a .base))
+    (λ k n. refused (c .before .is-repetition .result) (c .before .is-repetition .ensures) (c .if1 .taken) (n .repetition))
+
+returns-2 : tie.Need-returns-2
+returns-2 c =
+    let a = c .before .before .before .args in
+    mask-none (Names (a .repetition) (a .base)) (λ k n. omega (arith, n .base))
+
+pattern-requires : tie.Need-pattern-requires
+pattern-requires c κs = search needs
+
+seven : (c : tie.Else1) → Repetition (c .before .before .args .repetition)
+seven c = granted (c .before .is-repetition .result) (c .before .is-repetition .ensures) (c .if1 .left)
+
+shl-result : tie.Need-shl-result
+shl-result c = omega (arith, repetition-most (seven (c .before .before)))
+
+returns-3 : tie.Need-returns-3
+returns-3 c = shifted (c .pattern .result) (seven (c .before .before)) (c .before .if2 .left) (c .pattern .ensures)
+
+pub cycles-of-spec : {M : Type 1} → statement M
+cycles-of-spec =
+    tie.close (tie.spec is-repetition-requires returns returns-2 pattern-requires shl-result returns-3)

@@ -1,0 +1,14 @@
+pub mod Sums
+pub mod SumLaws
+pub mod Rows
+pub mod RowLaws
+pub mod Tables
+pub mod TableLaws
+pub mod Runs
+pub mod RunLaws
+pub mod FewestLaws
+pub mod Units
+pub mod UnitLaws
+pub mod Plans
+pub mod PlanLaws
+pub mod WordLaws

@@ -1,4 +1,76 @@
-// Runs the cases of "Examples with numbers" and writes what the routines give, a line each.
+// Runs the cases of "Examples with numbers" through the routines and writes what they give, a line each.
+// The file `stdout` holds 01's numbers; the starred ones are also proved, of the definitions, in proofs/Starred.antt.
+use libc::STDOUT_FILENO;
+use terms::Frame;
+use terms::Settings;
+use terms::Signal;
+
+// Unless said otherwise: cycle 2,500, slot 16, 93 slots, packing 0, payload 8.
+fn settings(slots: u32, packing: u32) -> Settings {
+    Settings {
+        cycle: 2500,
+        slot: 16,
+        slots,
+        packing,
+        payload: 8,
+    }
+}
+
+// "T/O/D" is period, offset, bound.
+fn signal(period: u32, offset: u32, bound: u32) -> Signal {
+    Signal {
+        unit: 1,
+        period,
+        offset,
+        size: 16,
+        bound,
+    }
+}
+
+fn write(n: u32) {
+    io::print_decimal(STDOUT_FILENO, n as u64);
+}
+
+// The case's number and the signal's repetition, 0 where it is refused.
+fn gets(case: u32, s: Settings, x: Signal) {
+    io::write_all(STDOUT_FILENO, b"case ");
+    write(case);
+    io::write_all(STDOUT_FILENO, b": repetition ");
+    write(rule::repetition(s, x));
+    io::write_all(STDOUT_FILENO, b"\n");
+}
+
+// The case's number and the signal's age in a slot, at base 0.
+fn shows(case: u32, s: Settings, x: Signal, slot: u32, repetition: u32) {
+    let f = Frame {
+        slot,
+        repetition,
+        base: 0,
+    };
+    io::write_all(STDOUT_FILENO, b"case ");
+    write(case);
+    io::write_all(STDOUT_FILENO, b": age in slot ");
+    write(slot);
+    io::write_all(STDOUT_FILENO, b" is ");
+    write(age::age(s, x, f));
+    io::write_all(STDOUT_FILENO, b"\n");
+}
+
 fn main() {
-    io::write_all(1, b"cases\n");
+    gets(1, settings(93, 0), signal(2500, 0, 2500));
+    shows(1, settings(93, 0), signal(2500, 0, 2500), 93, 1);
+    gets(2, settings(93, 0), signal(2500, 16, 2500));
+    shows(2, settings(93, 0), signal(2500, 16, 2500), 1, 1);
+    gets(3, settings(93, 0), signal(2500, 15, 2500));
+    shows(3, settings(93, 0), signal(2500, 15, 2500), 1, 1);
+    gets(4, settings(93, 1), signal(2500, 0, 2500));
+    shows(4, settings(93, 1), signal(2500, 0, 2500), 1, 1);
+    gets(5, settings(93, 100), signal(10000, 2000, 9488));
+    gets(6, settings(93, 100), signal(10000, 2000, 9487));
+    gets(7, settings(93, 100), signal(50000, 2000, 50000));
+    shows(7, settings(93, 100), signal(50000, 2000, 50000), 93, 16);
+    gets(8, settings(93, 100), signal(50000, 2000, 15000));
+    gets(9, settings(29, 0), signal(2500, 472, 2500));
+    gets(9, settings(30, 0), signal(2500, 472, 2500));
+    shows(9, settings(30, 0), signal(2500, 472, 2500), 30, 1);
 }

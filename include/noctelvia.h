@@ -4,7 +4,9 @@
  *
  * Every call answers every input: there is nothing to check beforehand. Nothing is kept between calls, no memory
  * is allocated, and calls may be made from several threads at once. All numbers are those of the book of blocks:
- * times in whole macroticks, words of 32 bits.
+ * times in whole macroticks, words of 32 bits. What is lent belongs to the caller: the bytes or words from a pointer
+ * on, as many as the length behind it says. The two lent to one call do not overlap. A pointer is never null, also
+ * where the length is 0.
  *
  * Example: the repetition of a signal, and its age in slot 7 at base 0.
  *
@@ -14,6 +16,7 @@
 #ifndef NOCTELVIA_H
 #define NOCTELVIA_H
 
+#include <stddef.h>
 #include <stdint.h>
 
 #ifdef __cplusplus
@@ -32,6 +35,39 @@ uint32_t noctelvia_age(uint32_t cycle_length, uint32_t slot_length, uint32_t slo
 uint32_t noctelvia_repetition(uint32_t cycle_length, uint32_t slot_length, uint32_t slots, uint32_t packing_time,
                               uint32_t payload, uint32_t unit, uint32_t period, uint32_t offset, uint32_t size,
                               uint32_t bound);
+
+/* An answer about a book is one number: the answer's number times 4,294,967,296, plus its place. */
+#define NOCTELVIA_NUMBER(answer) ((uint32_t)((answer) >> 32))
+#define NOCTELVIA_PLACE(answer) ((uint32_t)(answer))
+
+enum {
+    NOCTELVIA_DONE = 0,   /* place: signals read, or blocks written */
+    NOCTELVIA_LENGTH = 1, /* the book's length is 0, not a multiple of 512, or over 26 blocks; place 0 */
+    NOCTELVIA_CHECK = 2,  /* a check word is wrong; place: the first such block, from 0 */
+    NOCTELVIA_KIND = 3,   /* a block's number or kind is wrong; place: the first such block */
+    NOCTELVIA_COUNT = 4,  /* over 600 signals, a list not of five words a signal, or a wrong count in a book; place 0 */
+    NOCTELVIA_ZERO = 5,   /* a word that must be zero is not; place: the first such block */
+    NOCTELVIA_ROOM = 10   /* what was lent is too short; place: the words (reading) or bytes (writing) needed */
+};
+
+/* Reads a book: its signals, five words each (unit, period, offset, size, bound), into the first words of the lent
+ * list; words behind stay. Answers DONE with the signals read, or LENGTH, CHECK, KIND, COUNT, ZERO or ROOM; then no
+ * word of the list is changed. 3,000 words are always enough. Any 32-bit values are accepted in the signals. */
+uint64_t noctelvia_read(const uint8_t *book, size_t book_bytes, uint32_t *list, size_t list_words);
+
+/* A setting of a book that reading does not refuse with numbers 1 to 5: word 2 is the cycle length, 3 the slot
+ * length, 4 the number of slots, 5 the packing time, 6 the payload. 0 for any other book or word. */
+uint32_t noctelvia_setting(const uint8_t *book, size_t book_bytes, uint32_t word);
+
+/* Writes the book of the settings and the list, 512 bytes a block, into the first bytes of the lent room; bytes
+ * behind stay. Answers DONE with the blocks written, or COUNT or ROOM; then no byte of the room is changed. 13,312
+ * bytes are always enough. */
+uint64_t noctelvia_write(uint32_t cycle_length, uint32_t slot_length, uint32_t slots, uint32_t packing_time,
+                         uint32_t payload, const uint32_t *list, size_t list_words, uint8_t *room, size_t room_bytes);
+
+/* The byte of the book at which the twenty bytes of a signal (numbered from 1) start, or 0 where the book is refused
+ * by numbers 1 to 5 or has no such signal. */
+uint64_t noctelvia_part(const uint8_t *book, size_t book_bytes, uint32_t signal);
 
 #ifdef __cplusplus
 }

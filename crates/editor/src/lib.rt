@@ -2,7 +2,11 @@
 // Promises: what the rooms below promise, of the words as they are handed over.
 ghost use Rattle.age.specs.Given.{AgeGiven};
 ghost use Rattle.rule.specs.Rule.{RepetitionGiven};
-ghost use Rattle.editor.specs.Words.{settingsOf, signalOf, frameOf};
+ghost use Rattle.editor.specs.Words.{settingsFrom, signalFrom, frameFrom, settingAt};
+ghost use Rattle.editor.specs.Answered.{ReadAnswered, WriteAnswered};
+ghost use Rattle.book.specs.Reading.{settingsOf};
+ghost use Rattle.book.specs.Part.{partAt};
+ghost use mathlib.Core.Path.{_≡_};
 use terms::Frame;
 use terms::Settings;
 use terms::Signal;
@@ -24,7 +28,7 @@ pub extern "C" fn noctelvia_age(
     repetition: u32,
     base: u32,
 ) -> u32
-    ensures { λ r. ⌜ AgeGiven (settingsOf cycle length slots packing payload) (signalOf unit period offset size bound) (frameOf slot repetition base) r ⌝ }
+    ensures { λ r. ⌜ AgeGiven (settingsFrom cycle length slots packing payload) (signalFrom unit period offset size bound) (frameFrom slot repetition base) r ⌝ }
 {
     let s = Settings {
         cycle,
@@ -62,7 +66,7 @@ pub extern "C" fn noctelvia_repetition(
     size: u32,
     bound: u32,
 ) -> u32
-    ensures { λ r. ⌜ RepetitionGiven (settingsOf cycle length slots packing payload) (signalOf unit period offset size bound) r ⌝ }
+    ensures { λ r. ⌜ RepetitionGiven (settingsFrom cycle length slots packing payload) (signalFrom unit period offset size bound) r ⌝ }
 {
     let s = Settings {
         cycle,
@@ -79,4 +83,74 @@ pub extern "C" fn noctelvia_repetition(
         bound,
     };
     rule::repetition(s, x)
+}
+
+// Reading a book into a lent list: number times 4,294,967,296 plus place.
+#[no_mangle]
+pub extern "C" fn noctelvia_read(book: &[u8], list: &mut [u32]) -> u64
+    ensures { λ r. ⌜ ReadAnswered (now (book .entry)) (now (list .entry)) r (now (list .exit)) ⌝ }
+{
+    let reading = book::read(book, list);
+    let answer = reading.answer;
+    terms::packed(answer)
+}
+
+// Setting word 2 to 6 of a sound book; 0 for any other book or word.
+#[no_mangle]
+pub extern "C" fn noctelvia_setting(book: &[u8], word: u32) -> u32
+    ensures { λ r. ⌜ r ≡ settingAt (settingsOf (now (book .entry))) word ⌝ }
+{
+    setting_at(book::settings_of(book), word)
+}
+
+// Writing the book of settings and a list into lent room.
+#[no_mangle]
+pub extern "C" fn noctelvia_write(
+    cycle: u32,
+    length: u32,
+    slots: u32,
+    packing: u32,
+    payload: u32,
+    list: &[u32],
+    room: &mut [u8],
+) -> u64
+    ensures { λ r. ⌜ WriteAnswered (settingsFrom cycle length slots packing payload) (now (list .entry)) (now (room .entry)) r (now (room .exit)) ⌝ }
+{
+    let s = Settings {
+        cycle,
+        slot: length,
+        slots,
+        packing,
+        payload,
+    };
+    terms::packed(book::write(s, list, room))
+}
+
+// The byte at which the twenty bytes of a signal start in a sound book that has it, or 0.
+#[no_mangle]
+pub extern "C" fn noctelvia_part(book: &[u8], signal: u32) -> u64
+    ensures { λ r. ⌜ r ≡ partAt (now (book .entry)) signal ⌝ }
+{
+    book::part_at(book, signal) as u64
+}
+
+fn setting_at(s: Settings, word: u32) -> u32
+    ensures { λ r. ⌜ r ≡ settingAt s word ⌝ }
+{
+    if word == 2 {
+        return s.cycle;
+    }
+    if word == 3 {
+        return s.slot;
+    }
+    if word == 4 {
+        return s.slots;
+    }
+    if word == 5 {
+        return s.packing;
+    }
+    if word == 6 {
+        return s.payload;
+    }
+    0
 }

@@ -1,0 +1,5 @@
+pub mod Words
+pub mod Blocks
+pub mod Reading
+pub mod Part
+pub mod Outcomes

@@ -1,0 +1,15 @@
+// The twin of the planner: document 01 written a second time, from its text alone.
+// The programs under src/bin compare it with the static library; `bench/` measures against it.
+
+pub mod age;
+pub mod book;
+pub mod cases;
+pub mod damage;
+pub mod draw;
+pub mod kit;
+pub mod library;
+pub mod random;
+pub mod reached;
+pub mod rule;
+pub mod stray;
+pub mod terms;

@@ -1,0 +1,48 @@
+// Counts of what a run reached, each kind named beforehand.
+// A kind that was never reached fails the run: a test that cannot fail is none.
+
+pub struct Reached {
+    kinds: Vec<(String, u64)>,
+}
+
+impl Reached {
+    pub fn expecting<S: ToString>(names: impl IntoIterator<Item = S>) -> Reached {
+        Reached { kinds: names.into_iter().map(|name| (name.to_string(), 0)).collect() }
+    }
+
+    /// Adds one to a kind that was named; a kind that was not is a slip in the program.
+    pub fn count(&mut self, name: &str) {
+        match self.kinds.iter_mut().find(|(kind, _)| kind == name) {
+            Some((_, times)) => *times += 1,
+            None => panic!("the kind `{name}` was not named beforehand"),
+        }
+    }
+
+    pub fn times(&self, name: &str) -> u64 {
+        self.kinds.iter().filter(|(kind, _)| kind == name).map(|(_, times)| times).sum()
+    }
+
+    /// One line for each kind, in the order in which they were named.
+    pub fn print(&self) {
+        for (kind, times) in &self.kinds {
+            println!("  {kind}: {times}");
+        }
+    }
+
+    /// The kinds that were never reached.
+    pub fn missing(&self) -> Vec<&str> {
+        self.kinds.iter().filter(|(_, times)| *times == 0).map(|(kind, _)| kind.as_str()).collect()
+    }
+}
+
+#[cfg(test)]
+mod tests {
+    use super::*;
+
+    #[test]
+    fn what_was_not_reached_is_missing() {
+        let mut reached = Reached::expecting(["one", "two"]);
+        reached.count("one");
+        assert_eq!((reached.times("one"), reached.missing()), (1, vec!["two"]));
+    }
+}

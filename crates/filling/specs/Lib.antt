@@ -12,3 +12,13 @@ pub mod UnitLaws
 pub mod Plans
 pub mod PlanLaws
 pub mod WordLaws
+pub mod FrameWords
+pub mod Fills
+pub mod FrameWordLaws
+pub mod FillLaws
+pub mod Steps
+pub mod StepLaws
+pub mod Ordered
+pub mod OrderedLaws
+pub mod OrderedWordLaws
+pub mod PlaceLaws

@@ -1,5 +1,7 @@
-// Measures `repetition` over 600 signals at 128 slots, library and twin in turn: `bench [ROUNDS]`.
-// `bench SIDE MIX` (library, twin or nothing; first or late) does the work once, to be counted from outside.
+// Measures `repetition` and `plan` over 600 signals at 128 slots, library and twin in turn: `bench [ROUNDS]`.
+// `bench SIDE MIX` (library, twin or nothing; a name that `bench mixes` lists) does the work once, to be counted.
+
+mod plan;
 
 use std::hint::black_box;
 use std::process::ExitCode;
@@ -78,15 +80,15 @@ fn median_and_best(mut times: Vec<Duration>) -> (f64, f64) {
 }
 
 /// Both sides in turn, the one that goes first changing from round to round.
-fn measure(name: &str, signals: &[Signal], rounds: usize) {
+fn measure(Mix { name, signals, library, twin, .. }: &Mix, rounds: usize) {
     let (mut of_library, mut of_twin) = (Vec::new(), Vec::new());
     for round in 0..rounds {
         if round % 2 == 0 {
-            of_library.push(timed(library, signals));
-            of_twin.push(timed(twin, signals));
+            of_library.push(timed(*library, signals));
+            of_twin.push(timed(*twin, signals));
         } else {
-            of_twin.push(timed(twin, signals));
-            of_library.push(timed(library, signals));
+            of_twin.push(timed(*twin, signals));
+            of_library.push(timed(*library, signals));
         }
     }
     let (library, twin) = (median_and_best(of_library), median_and_best(of_twin));
@@ -96,32 +98,57 @@ fn measure(name: &str, signals: &[Signal], rounds: usize) {
     }
 }
 
-/// Both mixes, each with the repetition that every signal of it must get.
-fn mixes() -> [(&'static str, Vec<Signal>, u32); 2] {
-    [("first", kept_at_first(), 64), ("late", failing_late(), 32)]
+/// One measure: the work of both sides on the same signals, and what both must give where that is known.
+struct Mix {
+    name: &'static str,
+    signals: Vec<Signal>,
+    library: fn(&[Signal]) -> u32,
+    twin: fn(&[Signal]) -> u32,
+    wanted: Option<u32>,
+}
+
+/// The measures that the library has the calls for.
+fn mixes() -> Vec<Mix> {
+    let sum = |repetition: u32| Some(repetition * SIGNALS as u32);
+    let mut mixes = vec![
+        Mix { name: "first", signals: kept_at_first(), library, twin, wanted: sum(64) },
+        Mix { name: "late", signals: failing_late(), library, twin, wanted: sum(32) },
+    ];
+    match plan::LIBRARY {
+        Some(library) => {
+            mixes.push(Mix { name: "plan", signals: plan::signals(), library, twin: plan::twin, wanted: None });
+        }
+        None => eprintln!("plan: skipped, noctelvia_plan_list is not in the library"),
+    }
+    mixes
 }
 
 fn once(side: &str, mix: &str) -> Option<ExitCode> {
-    let (_, signals, _) = mixes().into_iter().find(|(name, _, _)| *name == mix)?;
-    let sum = match side {
-        "library" => library(&signals),
-        "twin" => twin(&signals),
+    let mix = mixes().into_iter().find(|known| known.name == mix)?;
+    let given = match side {
+        "library" => (mix.library)(&mix.signals),
+        "twin" => (mix.twin)(&mix.signals),
         "nothing" => 0,
         _ => return None,
     };
-    println!("{side} {mix}: repetitions sum to {sum}");
+    println!("{side} {}: {given}", mix.name);
     Some(ExitCode::SUCCESS)
 }
 
 fn all(rounds: usize) -> ExitCode {
-    for (name, signals, wanted) in mixes() {
-        let (given, by_twin) = (library(&signals), twin(&signals));
-        if [given, by_twin] != [wanted * SIGNALS as u32; 2] {
-            println!("{name}: library sums to {given}, twin to {by_twin}; each signal should get {wanted}");
+    for mix in mixes() {
+        let (given, by_twin) = ((mix.library)(&mix.signals), (mix.twin)(&mix.signals));
+        if given != by_twin || mix.wanted.is_some_and(|wanted| wanted != given) {
+            println!("{}: library gives {given}, twin {by_twin}, wanted {:?}", mix.name, mix.wanted);
             return ExitCode::FAILURE;
         }
-        measure(name, &signals, rounds);
+        measure(&mix, rounds);
     }
+    ExitCode::SUCCESS
+}
+
+fn names() -> ExitCode {
+    mixes().iter().for_each(|mix| println!("{}", mix.name));
     ExitCode::SUCCESS
 }
 
@@ -130,12 +157,13 @@ fn main() -> ExitCode {
     let asked: Vec<&str> = arguments.iter().map(String::as_str).collect();
     let done = match asked[..] {
         [] => Some(all(15)),
+        ["mixes"] => Some(names()),
         [rounds] => rounds.parse().ok().filter(|&rounds| rounds > 0).map(all),
         [side, mix] => once(side, mix),
         _ => None,
     };
     done.unwrap_or_else(|| {
-        eprintln!("bench [ROUNDS], or bench library|twin|nothing first|late");
+        eprintln!("bench [ROUNDS], or bench mixes, or bench library|twin|nothing MIX");
         ExitCode::from(2)
     })
 }

@@ -18,6 +18,10 @@ WEAK u32 noctelvia_setting(const u8 *book, size book_bytes, u32 word);
 WEAK u64 noctelvia_write(u32 cycle, u32 slot_length, u32 slots, u32 packing, u32 payload,
                          const u32 *list, size list_words, u8 *room, size room_bytes);
 WEAK u64 noctelvia_part(const u8 *book, size book_bytes, u32 signal);
+WEAK u64 noctelvia_plan_list(u32 cycle, u32 slot_length, u32 slots, u32 packing, u32 payload,
+                             const u32 *list, size list_words, u32 *cells, size cells_words,
+                             u32 *results, size results_words);
+WEAK u64 noctelvia_plan(const u8 *book, size book_bytes, u8 *results, size result_bytes);
 
 // Of the C library; declared here because no headers for x86-64 need to be on the machine.
 long read(int file, void *to, size bytes);
@@ -25,7 +29,7 @@ long write(int file, const void *from, size bytes);
 void _exit(int status);
 
 enum { PUT = 1, GET = 2, CALL = 3, SEND = 4 };
-enum { AGE, REPETITION, READ, SETTING, WRITE, PART };
+enum { AGE, REPETITION, READ, SETTING, WRITE, PART, PLAN_LIST, PLAN, HAS };
 enum { DONE = 0, BAD_COMMAND = 3, MISSING = 4, ARENA = 1 << 20 };
 
 static u8 arena[ARENA] __attribute__((aligned(64)));
@@ -88,6 +92,14 @@ static void must_have(int present, const char *name) {
     _exit(MISSING);
 }
 
+// Whether one of the planning calls is in the library, so that the twin need not lose its caller to find out.
+static u64 has(u32 function) {
+    if (function == PLAN_LIST) return noctelvia_plan_list != 0;
+    if (function == PLAN) return noctelvia_plan != 0;
+    _exit(BAD_COMMAND);
+    return 0;
+}
+
 static u64 call(u32 function, const u32 a[13]) {
     switch (function) {
     case AGE:
@@ -106,6 +118,15 @@ static u64 call(u32 function, const u32 a[13]) {
     case PART:
         must_have(noctelvia_part != 0, "noctelvia_part");
         return noctelvia_part(arena + a[0], a[1], a[2]);
+    case PLAN_LIST:
+        must_have(noctelvia_plan_list != 0, "noctelvia_plan_list");
+        return noctelvia_plan_list(a[0], a[1], a[2], a[3], a[4], (const u32 *)(arena + a[5]), a[6],
+                                   (u32 *)(arena + a[7]), a[8], (u32 *)(arena + a[9]), a[10]);
+    case PLAN:
+        must_have(noctelvia_plan != 0, "noctelvia_plan");
+        return noctelvia_plan(arena + a[0], a[1], arena + a[2], a[3]);
+    case HAS:
+        return has(a[0]);
     }
     _exit(BAD_COMMAND);
     return 0;

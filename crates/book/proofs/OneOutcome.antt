@@ -5,6 +5,7 @@ use Prim.Native.Nat.{ℕ}
 use Rattle.terms.specs.declared.Settings.{Settings}
 use Rattle.terms.specs.declared.Answer.{Answer}
 use Rattle.book.specs.declared.Reading.{Reading}
+use Rattle.book.specs.Words.{bytesAfter}
 use Rattle.book.specs.Reading.{settingsOf}
 use Rattle.book.specs.Part.{partAt}
 use Rattle.book.specs.Outcomes.{ReadOutcome, WriteOutcome, PartOutcome}
@@ -29,3 +30,6 @@ part-at-one book i p q x y = x ∙ sym y
 
 pub settings-of-one : (book : List ℕ) (s t : Settings) → s ≡ settingsOf book → t ≡ settingsOf book → s ≡ t
 settings-of-one book s t x y = x ∙ sym y
+
+pub put-words-one : (words bytes a b : List ℕ) → a ≡ bytesAfter words bytes → b ≡ bytesAfter words bytes → a ≡ b
+put-words-one words bytes a b x y = x ∙ sym y

@@ -3,10 +3,11 @@ use mathlib.Core.Path.{_≡_, refl, sym, ap, _∙_}
 use mathlib.Core.List.{List, _++_}
 use Prim.Native.Nat.{ℕ, zero, suc, _+_, _-_, _*_, _/_, _%_, _^_, _≤_, _<_}
 use native.Mathlib.Nat.{add-zero, div-div-eq-div-mul}
+use borrow.Author.Tests.{le-leb, lt-leb}
 use native.Mathlib.Omega.{arith}
 use lib.ListN.{length, getD, take, drop, set, length-take, List·getD-eq-default}
 use lib.Seq.{getD-take, getD-drop}
-use Rattle.book.specs.Words.{AllBelow, upTo, wordAt, byteOf, withWord, bytesOf}
+use Rattle.book.specs.Words.{AllBelow, upTo, wordAt, byteOf, withWord, bytesOf, bytesAfter}
 use Rattle.book.specs.Blocks.{signalBlock}
 use Rattle.book.proofs.RunLaws.{upTo-length, upTo-at, upTo-is, upTo-set}
 
@@ -119,3 +120,12 @@ pub signal-past : (l : List ℕ) (k w : ℕ) → 123 ≤ w → getD (signalBlock
 unfolding signalBlock
 signal-past l k w h =
     List·getD-eq-default (signalBlock l k) 0 {n = w} (omega (arith, length-take 120 (drop (120 * (k - 1)) l)))
+
+pub bytes-after-none : (words bytes : List ℕ) → length bytes < 4 * length words → bytesAfter words bytes ≡ bytes
+unfolding bytesAfter
+bytes-after-none words bytes h = rw (lt-leb (4 * length words) (length bytes) h)
+
+pub bytes-after-all : (words bytes : List ℕ) → 4 * length words ≤ length bytes
+    → bytesAfter words bytes ≡ bytesOf (λ p. getD words p 0) (length words) ++ drop (4 * length words) bytes
+unfolding bytesAfter
+bytes-after-all words bytes h = rw (le-leb (4 * length words) (length bytes) h)

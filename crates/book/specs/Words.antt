@@ -2,7 +2,8 @@
 use mathlib.Core.Bool.{Bool, cond}
 use mathlib.Core.List.{List, [], _∷_, _++_}
 use Prim.Native.Nat.{ℕ, zero, suc, _+_, _*_, _/_, _%_, _^_, _<_}
-use lib.ListN.{getD, set}
+use lib.Dec.{leb}
+use lib.ListN.{length, drop, getD, set}
 
 -- each number of a list is below n: a byte is below 256, a word below 2 ^ 32
 abbrev pub AllBelow : ℕ → List ℕ → Type 0
@@ -48,3 +49,8 @@ bytesOf f n = upTo (λ j. byteOf (f (j / 4)) (j % 4)) (4 * n)
 -- the check of a block: the sum of its words 0 to 126 plus 1, kept to 32 bits
 unfoldable pub checkOf : (ℕ → ℕ) → ℕ
 checkOf f = (sumUpTo f 127 + 1) % 2 ^ 32
+
+-- words into lent bytes: all of them, or none where the bytes are too few
+unfoldable pub bytesAfter : List ℕ → List ℕ → List ℕ
+bytesAfter words bytes =
+    cond (leb (4 * length words) (length bytes)) (bytesOf (λ p. getD words p 0) (length words) ++ drop (4 * length words) bytes) bytes

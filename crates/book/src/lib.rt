@@ -15,9 +15,11 @@ use terms::Answer;
 use terms::Settings;
 use words::word;
 use writer::fill;
+use writer::put_all;
 ghost use mathlib.Core.Path.{_≡_};
 ghost use Rattle.book.specs.Reading.{fiveZeros, settingsOf};
 ghost use Rattle.book.specs.Part.{partAt};
+ghost use Rattle.book.specs.Words.{bytesAfter};
 ghost use Rattle.book.specs.Outcomes.{ReadOutcome, WriteOutcome, PartOutcome};
 
 pub struct Reading {
@@ -120,4 +122,14 @@ pub fn part_at(book: &[u8], i: u32) -> usize
         return 0;
     }
     signal_at(i)
+}
+
+// Words as little-endian bytes into the first bytes of the lent room; nothing where the room is too short for all.
+pub fn put_words(list: &[u32], room: &mut [u8])
+    ensures { λ _. ⌜ now (room .exit) ≡ bytesAfter (now (list .entry)) (now (room .entry)) ⌝ }
+{
+    if room.len() / 4 < list.len() {
+        return;
+    }
+    put_all(list, room);
 }

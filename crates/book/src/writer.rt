@@ -114,3 +114,15 @@ pub(crate) fn fill(s: Settings, list: &[u32], room: &mut [u8], blocks: usize)
         p += 1;
     }
 }
+
+// The words of a list as bytes, from the first on.
+pub(crate) fn put_all(list: &[u32], room: &mut [u8])
+    requires { ⌜ 4 * length (now list) ≤ length (now room) ⌝ }
+    ensures { λ _. ⌜ now (room .exit) ≡ bytesOf (λ p. getD (now (list .entry)) p 0) (length (now (list .entry))) ++ drop (4 * length (now (list .entry))) (now (room .entry)) ⌝ }
+{
+    let mut p: usize = 0;
+    while p < list.len() {
+        put_word(room, p, list[p]);
+        p += 1;
+    }
+}

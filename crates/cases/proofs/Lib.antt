@@ -1,3 +1,4 @@
 pub mod Ranges
 pub mod Rule
+pub mod Filling
 pub mod Starred

@@ -16,9 +16,17 @@ use Rattle.age.specs.FrameLaws.{frame-bounded}
 use Rattle.age.specs.Given.{InRange}
 use Rattle.laws.specs.DivisorLaws.{gcd-positive}
 use native.Mathlib.Omega.{arith}
+use lib.Count.{trailingZeros}
+use Rattle.filling.specs.FrameWords.{exponent}
+use Rattle.filling.specs.Ordered.{ordered, insert}
+use Rattle.filling.specs.Rows.{firstFree, seek}
+use Rattle.filling.specs.Runs.{run, end, room}
+use Rattle.filling.specs.Sums.{sum, total, same}
+use Rattle.planner.specs.Filled.{unitFrames, placesOf, unitsPlaced}
 use Rattle.cases.specs.Cases.{Case, Holds, AllHold, starred, Claim}
-use Rattle.cases.specs.Cases.Case.{gets, shows}
+use Rattle.cases.specs.Cases.Case.{gets, shows, fills}
 use Rattle.cases.proofs.Ranges.{valid-test, in-range-test}
+use Rattle.cases.proofs.Filling.{fills-test}
 use Rattle.cases.proofs.Rule.{gets-test, keeps-at, keeps-flag, divisor}
 
 -- the age by the paper's equations 6 and 7
@@ -40,11 +48,12 @@ abbrev test : (c : Case) → Test (Holds c)
 test (gets s x r) = shown (λ h. (h .0, h .1 (h .0))) (join (valid-test s x) (gets-test s x r))
 test (shows s x f a) =
     shown (λ h. (h .0, subst (Age s x f) (h .1) (age-of s x f (h .0)))) (join (in-range-test s x f) (equal (ageOf s x f) a))
+test (fills s list repetitions places slots) = fills-test s list repetitions places slots
 
 abbrev tests : (cs : List Case) → Test (AllHold cs)
 tests [] = passing tt
 tests (c ∷ cs) = join (test c) (tests cs)
 
 pub starred-hold : Claim
-unfolding Claim euclid keeps-at keeps-flag divisor
+unfolding Claim euclid keeps-at keeps-flag divisor unitFrames placesOf unitsPlaced ordered insert sum total same run end room firstFree seek exponent trailingZeros
 starred-hold = tests starred .1 tt

@@ -1,4 +1,5 @@
 -- The starred cases of "Examples with numbers", gathered as one list with a single claim.
+use mathlib.Core.Path.{_≡_}
 use mathlib.Core.List.{List, [], _∷_}
 use Prim.Native.Nat.{ℕ}
 use Rattle.terms.specs.declared.Settings.{Settings}
@@ -8,6 +9,9 @@ use Rattle.terms.specs.Ranges.{Valid}
 use Rattle.age.specs.Age.{Age}
 use Rattle.age.specs.Given.{InRange}
 use Rattle.rule.specs.Rule.{Keeps, segment, Largest}
+use Rattle.planner.specs.Lists.{EachSignal, Repetitions}
+use Rattle.planner.specs.Filled.{Place, filled, needed}
+use Rattle.planner.specs.Judged.{repetitionIn}
 
 -- "Unless said otherwise: cycle 2,500, slot 16, 93 slots, packing 0, payload 8."
 abbrev pub settings : (slots packing : ℕ) → Settings
@@ -20,15 +24,27 @@ signal period offset bound = record { unit = 1; period = period; offset = offset
 abbrev pub frame : (slot repetition : ℕ) → Frame
 frame slot repetition = record { slot = slot; repetition = repetition; base = 0 }
 
+abbrev pub place : (signal slot base : ℕ) → Place
+place signal slot base = record { signal = signal; slot = slot; base = base }
+
 pub data Case : Type 0 where
   -- the signal's repetition, 0 where it is refused with number 8
   gets : Settings → Signal → ℕ → Case
   -- the signal's age in a frame
   shows : Settings → Signal → Frame → ℕ → Case
+  -- the repetitions of a list's signals, where each is placed, in the order of filling, and the slots used
+  fills : Settings → List ℕ → (repetitions : List ℕ) → List Place → ℕ → Case
+
+pub record Filled (s : Settings) (list repetitions : List ℕ) (at : List Place) (slots : ℕ) : Type 0 where
+  pub valid : EachSignal list (Valid s)
+  pub gets : Repetitions s list (repetitionIn repetitions)
+  pub places : filled list (repetitionIn repetitions) ≡ at
+  pub used : needed list (repetitionIn repetitions) ≡ slots
 
 abbrev pub Holds : Case → Type 0
 Holds (gets s x r) = Valid s x × Largest (Keeps s x (segment s)) r
 Holds (shows s x f a) = InRange s x f × Age s x f a
+Holds (fills s list repetitions places slots) = Filled s list repetitions places slots
 
 abbrev pub AllHold : List Case → Type 0
 AllHold [] = Unit {0}
@@ -61,6 +77,12 @@ starred =
     ∷ gets (settings 29 0) (signal 2500 472 2500) 1
     ∷ gets (settings 30 0) (signal 2500 472 2500) 0
     ∷ shows (settings 30 0) (signal 2500 472 2500) (frame 30 1) 2508
+    -- 10: repetitions 4, 2, 4 in list order: bases 1, 0, 3, one full slot
+    ∷ fills (settings 93 100)
+    (1 ∷ 10000 ∷ 2000 ∷ 16 ∷ 10000 ∷ 1 ∷ 5000 ∷ 2000 ∷ 16 ∷ 5000 ∷ 1 ∷ 10000 ∷ 2000 ∷ 16 ∷ 10000 ∷ []) (4 ∷ 2 ∷ 4 ∷ [])
+    (place 2 1 0 ∷ place 1 1 1 ∷ place 3 1 3 ∷ []) 1
+    -- 12: an empty list
+    ∷ fills (settings 93 0) [] [] [] 0
     ∷ []
 
 unfoldable pub Claim : Type 0

@@ -21,11 +21,15 @@ enum Function {
     Setting,
     Write,
     Part,
+    PlanList,
+    Plan,
+    Has,
 }
 
 /// Where in the caller's memory an input is laid, and where lent room is.
 const INPUT: usize = 0;
 const ROOM: usize = 1 << 19;
+const SECOND_ROOM: usize = 3 << 18;
 
 /// What guards hold, and how many bytes of them stand on each side.
 const GUARD: u8 = 0xA5;
@@ -47,6 +51,10 @@ fn opened(whole: &[u8], beside: usize) -> (&[u8], bool) {
     (inside, front.iter().chain(back).all(|&byte| byte == GUARD))
 }
 
+pub fn words_of(bytes: &[u8]) -> Vec<u32> {
+    bytes.chunks_exact(4).map(|b| u32::from_le_bytes([b[0], b[1], b[2], b[3]])).collect()
+}
+
 pub fn bytes_of(words: &[u32]) -> Vec<u8> {
     words.iter().flat_map(|word| word.to_le_bytes()).collect()
 }
@@ -56,6 +64,16 @@ pub fn bytes_of(words: &[u32]) -> Vec<u8> {
 pub struct Left {
     pub answer: u64,
     pub room: Vec<u8>,
+    pub guards_stand: bool,
+    pub input_stands: bool,
+}
+
+/// What planning over words gave and left: as `Left`, with two lent rooms.
+#[derive(Clone, Debug, PartialEq, Eq)]
+pub struct LeftTwo {
+    pub answer: u64,
+    pub cells: Vec<u32>,
+    pub results: Vec<u32>,
     pub guards_stand: bool,
     pub input_stands: bool,
 }
@@ -172,6 +190,58 @@ impl Library {
         self.put(INPUT, &input)?;
         self.put(ROOM, &lent)?;
         self.call(Function::Write, &arguments)?;
+        self.get(ROOM, lent.len())?;
+        self.get(INPUT, input.len())?;
+        self.send()?;
+        let answer = self.answer()?;
+        let lent = self.memory(lent.len())?;
+        let input_stands = self.memory(input.len())? == input;
+        let (room, guards_stand) = opened(&lent, BESIDE_BYTES);
+        Ok(Left { answer, room: room.to_vec(), guards_stand, input_stands })
+    }
+
+    fn has(&mut self, function: Function) -> Result<bool> {
+        self.call(Function::Has, &[function as u32])?;
+        self.send()?;
+        Ok(self.answer()? == 1)
+    }
+
+    pub fn has_plan_list(&mut self) -> Result<bool> {
+        self.has(Function::PlanList)
+    }
+
+    pub fn has_plan(&mut self) -> Result<bool> {
+        self.has(Function::Plan)
+    }
+
+    /// Plans a list into a table and results that hold the given words before.
+    pub fn plan_list(&mut self, settings: &Settings, list: &[u32], cells: &[u32], results: &[u32]) -> Result<LeftTwo> {
+        let rooms = [(INPUT, list), (ROOM, cells), (SECOND_ROOM, results)];
+        let lent = rooms.map(|(_, words)| guarded(&bytes_of(words), BESIDE_WORDS));
+        let mut arguments = settings.words().to_vec();
+        for ((at, words), whole) in rooms.iter().zip(&lent) {
+            arguments.extend([(at + BESIDE_WORDS) as u32, words.len() as u32]);
+            self.put(*at, whole)?;
+        }
+        self.call(Function::PlanList, &arguments)?;
+        for ((at, _), whole) in rooms.iter().zip(&lent) {
+            self.get(*at, whole.len())?;
+        }
+        self.send()?;
+        let answer = self.answer()?;
+        let input_stands = self.memory(lent[0].len())? == lent[0];
+        let (cells, results) = (self.memory(lent[1].len())?, self.memory(lent[2].len())?);
+        let ((cells, one), (results, other)) = (opened(&cells, BESIDE_WORDS), opened(&results, BESIDE_WORDS));
+        Ok(LeftTwo { answer, cells: words_of(cells), results: words_of(results), guards_stand: one && other, input_stands })
+    }
+
+    /// Plans a book into results that hold the given bytes before.
+    pub fn plan(&mut self, book: &[u8], results: &[u8]) -> Result<Left> {
+        let (input, lent) = (guarded(book, BESIDE_BYTES), guarded(results, BESIDE_BYTES));
+        let (at, room_at) = ((INPUT + BESIDE_BYTES) as u32, (ROOM + BESIDE_BYTES) as u32);
+        self.put(INPUT, &input)?;
+        self.put(ROOM, &lent)?;
+        self.call(Function::Plan, &[at, book.len() as u32, room_at, results.len() as u32])?;
         self.get(ROOM, lent.len())?;
         self.get(INPUT, input.len())?;
         self.send()?;

@@ -1,0 +1,94 @@
+-- Laws of the questions: the first refusal has one answer, a refusal is never number 0, and what passes is not refused.
+-- Assumes nothing.
+use mathlib.Core.Path.{_≡_, _∙_, sym, ap}
+use mathlib.Core.List.{List, [], _∷_}
+use mathlib.Core.Logic.{inl, inr, dite}
+use Prim.Native.Nat.{ℕ, suc, _<_}
+use native.Mathlib.Decide.{decLt}
+use native.Mathlib.Omega.{arith}
+use Rattle.terms.specs.declared.Settings.{Settings}
+use Rattle.terms.specs.declared.Signal.{Signal}
+use Rattle.terms.specs.declared.Answer.{Answer}
+use Rattle.terms.specs.declared.Answer.the-variants.{Done, Setting, Field, Bound, Slots}
+use Rattle.terms.specs.Answers.{numberOf}
+use Rattle.terms.specs.Ranges.{settingRanges}
+use Rattle.terms.specs.RangesLaws.{first-failing-unique}
+use Rattle.planner.specs.Lists.{LowestWithout}
+use Rattle.planner.specs.Asked.{Question, Refused, Passed, questions}
+use Rattle.planner.specs.Filled.{needed}
+use Rattle.planner.specs.JudgedLaws.{needed-same}
+
+pub passed-not-refused : (qs : List Question) (a : Answer) → Passed qs → Refused qs a → ⊥
+passed-not-refused (q ∷ qs) a p (inl r) = r .0 (p .0)
+passed-not-refused (q ∷ qs) a p (inr r) = passed-not-refused qs a (p .1) (r .1)
+
+-- no question has this answer
+abbrev Unanswered : List Question → Answer → Type 0
+Unanswered [] a = Unit {0}
+Unanswered (q ∷ qs) a = (q .1 a → ⊥) × Unanswered qs a
+
+unanswered : (qs : List Question) (a : Answer) → Unanswered qs a → Refused qs a → ⊥
+unanswered (q ∷ qs) a u (inl r) = u .0 (r .1)
+unanswered (q ∷ qs) a u (inr r) = unanswered qs a (u .1) (r .1)
+
+-- each question has one answer
+abbrev Single : List Question → Type 0
+Single [] = Unit {0}
+Single (q ∷ qs) = ((a b : Answer) → q .1 a → q .1 b → a ≡ b) × Single qs
+
+single : (qs : List Question) (a b : Answer) → Single qs → Refused qs a → Refused qs b → a ≡ b
+single (q ∷ qs) a b u (inl p) (inl r) = u .0 a b (p .1) (r .1)
+single (q ∷ qs) a b u (inl p) (inr r) = absurd (p .0 (r .0))
+single (q ∷ qs) a b u (inr p) (inl r) = absurd (r .0 (p .0))
+single (q ∷ qs) a b u (inr p) (inr r) = single qs a b (u .1) (p .1) (r .1)
+
+lowest-unique : (list : List ℕ) (P : Signal → Type 0) (i j : ℕ) → LowestWithout list P i → LowestWithout list P j → i ≡ j
+lowest-unique list P i j p q =
+    dite (decLt i j) (λ l. absurd (p .fails (q .before i (p .within .0) l))) (λ n.
+    dite (decLt j i) (λ l. absurd (q .fails (p .before j (q .within .0) l))) (λ m. omega arith))
+
+zero-apart : (n : ℕ) → 0 ≡ suc n → ⊥
+zero-apart n e = omega arith
+
+module _ (s : Settings) (list : List ℕ) (cells results : ℕ) where
+  pub done-not-refused : (n : ℕ) → Refused (questions s list cells results (needed list)) (Done n) → ⊥
+  done-not-refused n =
+      unanswered (questions s list cells results (needed list)) (Done n) (
+        (λ h. zero-apart 5 (ap numberOf (h .2))),
+        (
+          (λ e. zero-apart 3 (ap numberOf e)),
+          (
+            (λ e. zero-apart 9 (ap numberOf e)),
+            (
+              (λ e. zero-apart 9 (ap numberOf e)),
+              (
+                (λ h. zero-apart 6 (ap numberOf (h .2))),
+                ((λ h. zero-apart 7 (ap numberOf (h .2))), ((λ h. zero-apart 8 (ap numberOf (h .2))), tt)),
+              ),
+            ),
+          ),
+        ),
+      )
+
+  pub refused-unique : (a b : Answer) → Refused (questions s list cells results (needed list)) a
+      → Refused (questions s list cells results (needed list)) b → a ≡ b
+  refused-unique a b =
+      single (questions s list cells results (needed list)) a b (
+        (λ x y p q. p .2 ∙ ap Setting (first-failing-unique (settingRanges s) (p .0) (q .0) (p .1) (q .1)) ∙ sym (q .2)),
+        (
+          (λ x y p q. p ∙ sym q),
+          (
+            (λ x y p q. p ∙ sym q),
+            (
+              (λ x y p q. p ∙ sym q),
+              (
+                (λ x y p q. p .2 ∙ ap Field (lowest-unique list _ (p .0) (q .0) (p .1) (q .1)) ∙ sym (q .2)),
+                (
+                  (λ x y p q. p .2 ∙ ap Bound (lowest-unique list _ (p .0) (q .0) (p .1) (q .1)) ∙ sym (q .2)),
+                  ((λ x y p q. p .2 ∙ ap Slots (needed-same s list (p .0) (q .0) (p .1) (q .1)) ∙ sym (q .2)), tt),
+                ),
+              ),
+            ),
+          ),
+        ),
+      )

@@ -1,0 +1,1 @@
+// The demands as theorems over the outcomes of the public routines; no code of its own.

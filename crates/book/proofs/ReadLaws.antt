@@ -5,7 +5,7 @@ use mathlib.Core.List.{List}
 use Prim.Native.Nat.{ℕ, _*_, _≤_}
 use native.Mathlib.Omega.{arith}
 use lib.ListN.{length, take}
-use borrow.Author.Tests.{le-leb, ne-eqb}
+use borrow.Author.Tests.{le-leb, eq-eqb, ne-eqb}
 use Rattle.terms.specs.declared.Answer.the-variants.{Done}
 use Rattle.terms.specs.Answers.{numberOf}
 use Rattle.book.specs.declared.Reading.{Reading}
@@ -54,3 +54,19 @@ pub read-keeps : {b lent exit : List ℕ} {r : Reading} → ReadOutcome b lent r
 read-keeps {b} {lent} {r = r} read refused =
     let kept = read-refusal b lent (r .answer) (read .answer) (ne-eqb (numberOf (r .answer)) 0 refused) in
     (read .settings ∙ sym (kept .0), read .list ∙ sym (kept .1))
+
+-- with 3,000 words lent: an answer with number 0 is that of a sound book, with its signals; any other is that of 1 to 5
+pub read-sound : {b lent exit : List ℕ} {r : Reading} → 3000 ≤ length lent → ReadOutcome b lent r exit → numberOf (r .answer) ≡ 0
+    → (sound b ≡ true) × (r .answer ≡ Done (signalsOf b))
+unfolding sound
+read-sound {b} {lent} enough read z =
+    let given = read .answer ∙ room-for-all b (length lent) enough in
+    let whole = eq-eqb (numberOf (judged b)) 0 (sym (ap numberOf given) ∙ z) in
+    (whole, given ∙ facts-judged b (sound-facts b whole))
+
+pub read-unsound : {b lent exit : List ℕ} {r : Reading} → 3000 ≤ length lent → ReadOutcome b lent r exit → (numberOf (r .answer) ≡ 0 → ⊥)
+    → (sound b ≡ false) × (r .answer ≡ judged b)
+unfolding sound
+read-unsound {b} {lent} enough read n =
+    let given = read .answer ∙ room-for-all b (length lent) enough in
+    (ne-eqb (numberOf (judged b)) 0 (λ z. n (ap numberOf given ∙ z)), given)

@@ -4,7 +4,9 @@ use mathlib.Core.List.{List}
 use Prim.Native.Nat.{ℕ}
 use lib.ListN.{length}
 use Rattle.terms.specs.declared.Settings.{Settings}
+use Rattle.terms.specs.declared.Answer.{Answer}
 use Rattle.terms.specs.Answers.{packedOf}
+use Rattle.planner.specs.Planned.{Planned}
 use Rattle.book.specs.Reading.{readAnswer, listAfter}
 use Rattle.book.specs.Blocks.{writeAnswer, roomAfter}
 
@@ -15,3 +17,8 @@ pub record ReadAnswered (book lent : List ℕ) (r : ℕ) (exit : List ℕ) : Typ
 pub record WriteAnswered (s : Settings) (list lent : List ℕ) (r : ℕ) (exit : List ℕ) : Type 0 where
   pub answer : r ≡ packedOf (writeAnswer list (length lent))
   pub room : exit ≡ roomAfter s list lent
+
+pub record PlanAnswered (s : Settings) (list cells results : List ℕ) (r : ℕ) (cells′ results′ : List ℕ) : Type 0 where
+  pub given : Answer
+  pub planned : Planned s list cells results given cells′ results′
+  pub answer : r ≡ packedOf given

@@ -1,2 +1,4 @@
 pub mod Words
 pub mod Answered
+pub mod BookPlan
+pub mod BookPlanLaws

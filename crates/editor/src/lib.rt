@@ -3,10 +3,13 @@
 ghost use Rattle.age.specs.Given.{AgeGiven};
 ghost use Rattle.rule.specs.Rule.{RepetitionGiven};
 ghost use Rattle.editor.specs.Words.{settingsFrom, signalFrom, frameFrom, settingAt};
-ghost use Rattle.editor.specs.Answered.{ReadAnswered, WriteAnswered};
+ghost use Rattle.editor.specs.Answered.{ReadAnswered, WriteAnswered, PlanAnswered};
+ghost use Rattle.editor.specs.BookPlan.{BytesPlanned, BookAnswered};
+ghost use Rattle.planner.specs.Lists.{CountInRange};
 ghost use Rattle.book.specs.Reading.{settingsOf};
 ghost use Rattle.book.specs.Part.{partAt};
 ghost use mathlib.Core.Path.{_≡_};
+use terms::Answer;
 use terms::Frame;
 use terms::Settings;
 use terms::Signal;
@@ -132,6 +135,69 @@ pub extern "C" fn noctelvia_part(book: &[u8], signal: u32) -> u64
     ensures { λ r. ⌜ r ≡ partAt (now (book .entry)) signal ⌝ }
 {
     book::part_at(book, signal) as u64
+}
+
+// Planning over lent words, 64 cells a slot and four words a signal.
+#[no_mangle]
+pub extern "C" fn noctelvia_plan_list(
+    cycle: u32,
+    length: u32,
+    slots: u32,
+    packing: u32,
+    payload: u32,
+    list: &[u32],
+    cells: &mut [u32],
+    results: &mut [u32],
+) -> u64
+    ensures { λ r. ⌜ PlanAnswered (settingsFrom cycle length slots packing payload) (now (list .entry)) (now (cells .entry)) (now (results .entry)) r (now (cells .exit)) (now (results .exit)) ⌝ }
+{
+    let s = Settings {
+        cycle,
+        slot: length,
+        slots,
+        packing,
+        payload,
+    };
+    terms::packed(planner::plan(s, list, cells, results))
+}
+
+// Planning a book: four little-endian words a signal into the lent bytes.
+#[no_mangle]
+pub extern "C" fn noctelvia_plan(book: &[u8], results: &mut [u8]) -> u64
+    ensures { λ r. ⌜ BookAnswered (now (book .entry)) (now (results .entry)) r (now (results .exit)) ⌝ }
+{
+    let mut list = [0u32; 3000];
+    let reading = book::read(book, &mut list);
+    let answer = reading.answer;
+    if terms::number(answer) != 0 {
+        return terms::packed(answer);
+    }
+    let s = reading.settings;
+    let words = 5 * (terms::place(answer) as usize);
+    terms::packed(plan_bytes(s, &list[..words], results))
+}
+
+// The plan of a list whose results are bytes: only they can be too short.
+fn plan_bytes(s: Settings, list: &[u32], results: &mut [u8]) -> Answer
+    requires { ⌜ CountInRange (now list) ⌝ }
+    ensures { λ r. ⌜ BytesPlanned s (now (list .entry)) (now (results .entry)) r (now (results .exit)) ⌝ }
+{
+    let word = terms::setting_out_of_range(s);
+    if word != 0 {
+        return Answer::Setting(word);
+    }
+    let words = 4 * (list.len() / 5);
+    if results.len() < 4 * words {
+        return Answer::Room((4 * words) as u32);
+    }
+    let mut cells = [0u32; 8192];
+    let mut shown = [0u32; 2400];
+    let answer = planner::plan(s, list, &mut cells, &mut shown);
+    if terms::number(answer) != 0 {
+        return answer;
+    }
+    book::put_words(&shown[..words], results);
+    answer
 }
 
 fn setting_at(s: Settings, word: u32) -> u32

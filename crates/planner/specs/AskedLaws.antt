@@ -1,6 +1,6 @@
 -- Laws of the questions: the first refusal has one answer, a refusal is never number 0, and what passes is not refused.
 -- Assumes nothing.
-use mathlib.Core.Path.{_≡_, _∙_, sym, ap}
+use mathlib.Core.Path.{_≡_, refl, _∙_, sym, ap}
 use mathlib.Core.List.{List, [], _∷_}
 use mathlib.Core.Logic.{inl, inr, dite}
 use Prim.Native.Nat.{ℕ, suc, _<_}
@@ -47,28 +47,27 @@ lowest-unique list P i j p q =
     dite (decLt i j) (λ l. absurd (p .fails (q .before i (p .within .0) l))) (λ n.
     dite (decLt j i) (λ l. absurd (q .fails (p .before j (q .within .0) l))) (λ m. omega arith))
 
-zero-apart : (n : ℕ) → 0 ≡ suc n → ⊥
-zero-apart n e = omega arith
-
 module _ (s : Settings) (list : List ℕ) (cells results : ℕ) where
-  pub done-not-refused : (n : ℕ) → Refused (questions s list cells results (needed list)) (Done n) → ⊥
-  done-not-refused n =
-      unanswered (questions s list cells results (needed list)) (Done n) (
-        (λ h. zero-apart 5 (ap numberOf (h .2))),
+  -- no refusal has number 0
+  pub refusal-number : (a : Answer) → Refused (questions s list cells results (needed list)) a → numberOf a ≡ 0 → ⊥
+  refusal-number a r z =
+      unanswered (questions s list cells results (needed list)) a (
+        (λ h. omega (arith, ap numberOf (h .2))),
         (
-          (λ e. zero-apart 3 (ap numberOf e)),
+          (λ e. omega (arith, ap numberOf e)),
           (
-            (λ e. zero-apart 9 (ap numberOf e)),
+            (λ e. omega (arith, ap numberOf e)),
             (
-              (λ e. zero-apart 9 (ap numberOf e)),
-              (
-                (λ h. zero-apart 6 (ap numberOf (h .2))),
-                ((λ h. zero-apart 7 (ap numberOf (h .2))), ((λ h. zero-apart 8 (ap numberOf (h .2))), tt)),
-              ),
+              (λ e. omega (arith, ap numberOf e)),
+              ((λ h. omega (arith, ap numberOf (h .2))), ((λ h. omega (arith, ap numberOf (h .2))), ((λ h. omega (arith, ap numberOf (h .2))), tt))),
             ),
           ),
         ),
       )
+      r
+
+  pub done-not-refused : (n : ℕ) → Refused (questions s list cells results (needed list)) (Done n) → ⊥
+  done-not-refused n r = refusal-number (Done n) r refl
 
   pub refused-unique : (a b : Answer) → Refused (questions s list cells results (needed list)) a
       → Refused (questions s list cells results (needed list)) b → a ≡ b

@@ -14,6 +14,7 @@ use Rattle.terms.specs.Answers.{numberOf, placeOf}
 use Rattle.terms.specs.Ranges.{SettingsInRange, SignalInRange}
 use Rattle.planner.specs.Lists.{CountInRange, count, EachSignal, Kept, Repetitions}
 use Rattle.planner.specs.Asked.{Refused, questions}
+use Rattle.planner.specs.AskedLaws.{refusal-number}
 use Rattle.planner.specs.Filled.{needed}
 use Rattle.planner.specs.Planned.{Planned}
 use Rattle.planner.specs.Planned.Planned.{refused, done}
@@ -23,17 +24,6 @@ use Rattle.promises.proofs.Raising.{signals-raised, kept-raised, needed
 use Rattle.promises.proofs.Striking.{struck-count, struck-each, needed-struck}
 use Rattle.promises.proofs.Accepted.{slot, base, table, shown-exactly}
 use Rattle.promises.proofs.Fewest.{needed-least, used-most}
-
--- no refusal has number 0
-refusal-number : {s : Settings} {list : List ℕ} {cells results : ℕ} (a : Answer) → Refused (questions s list cells results (needed list)) a → numberOf a ≡ 0 → ⊥
-refusal-number a (inl q) z = omega (arith, ap numberOf (q .1 .2), z)
-refusal-number a (inr (k, inl q)) z = omega (arith, ap numberOf (q .1), z)
-refusal-number a (inr (k, inr (l, inl q))) z = omega (arith, ap numberOf (q .1), z)
-refusal-number a (inr (k, inr (l, inr (m, inl q)))) z = omega (arith, ap numberOf (q .1), z)
-refusal-number a (inr (k, inr (l, inr (m, inr (n, inl q))))) z = omega (arith, ap numberOf (q .1 .2), z)
-refusal-number a (inr (k, inr (l, inr (m, inr (n, inr (o, inl q)))))) z = omega (arith, ap numberOf (q .1 .2), z)
-refusal-number a (inr (k, inr (l, inr (m, inr (n, inr (o, inr (p, inl q))))))) z = omega (arith, ap numberOf (q .1 .2), z)
-refusal-number a (inr (k, inr (l, inr (m, inr (n, inr (o, inr (p, inr q))))))) z = q .1
 
 -- valid settings, a valid list and room
 pub record Ready (s : Settings) (list cells results : List ℕ) : Type 0 where
@@ -67,7 +57,7 @@ module _ (s : Settings) (list cells results : List ℕ) (h : Ready s list cells 
     pub place : placeOf a ≡ needed list R
 
   pub accepted : (a : Answer) (cells′ results′ : List ℕ) → Planned s list cells results a cells′ results′ → numberOf a ≡ 0 → Accepted a
-  accepted a cells′ results′ (refused r) z = absurd (refusal-number a r z)
+  accepted a cells′ results′ (refused r) z = absurd (refusal-number s list (length cells) (length results) a r z)
   accepted a cells′ results′ (done Q p plan) z =
       record {
         R = Q;
@@ -80,7 +70,7 @@ module _ (s : Settings) (list cells results : List ℕ) (h : Ready s list cells 
   -- "refused exactly when no collision-free table under the rule exists"
   pub refused-exactly : (a : Answer) (cells′ results′ : List ℕ) → Planned s list cells results a cells′ results′
       → (numberOf a ≡ 0 → ⊥) ↔ ((R slot base : ℕ → ℕ) → Table s list R slot base → ⊥)
-  refused-exactly a cells′ results′ (refused r) = ((λ n. none-where-refused a r), λ none z. refusal-number a r z)
+  refused-exactly a cells′ results′ (refused r) = ((λ n. none-where-refused a r), λ none z. refusal-number s list (length cells) (length results) a r z)
   refused-exactly a cells′ results′ (done Q p plan) = (
     (λ n. absurd (n refl)),
     λ none z.
@@ -97,7 +87,7 @@ module _ (s : Settings) (list cells results : List ℕ) (h : Ready s list cells 
     pub shown : slotsShown (s .slots) cells′ ≡ placeOf a
 
   pub accepted-sound : (a : Answer) (cells′ results′ : List ℕ) → Planned s list cells results a cells′ results′ → numberOf a ≡ 0 → Sound a cells′ results′
-  accepted-sound a cells′ results′ (refused r) z = absurd (refusal-number a r z)
+  accepted-sound a cells′ results′ (refused r) z = absurd (refusal-number s list (length cells) (length results) a r z)
   accepted-sound a cells′ results′ (done Q p plan) z =
       record {
         R = Q;

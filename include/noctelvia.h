@@ -41,13 +41,17 @@ uint32_t noctelvia_repetition(uint32_t cycle_length, uint32_t slot_length, uint3
 #define NOCTELVIA_PLACE(answer) ((uint32_t)(answer))
 
 enum {
-    NOCTELVIA_DONE = 0,   /* place: signals read, or blocks written */
+    NOCTELVIA_DONE = 0,   /* place: signals read, blocks written, or slots used */
     NOCTELVIA_LENGTH = 1, /* the book's length is 0, not a multiple of 512, or over 26 blocks; place 0 */
     NOCTELVIA_CHECK = 2,  /* a check word is wrong; place: the first such block, from 0 */
     NOCTELVIA_KIND = 3,   /* a block's number or kind is wrong; place: the first such block */
     NOCTELVIA_COUNT = 4,  /* over 600 signals, a list not of five words a signal, or a wrong count in a book; place 0 */
     NOCTELVIA_ZERO = 5,   /* a word that must be zero is not; place: the first such block */
-    NOCTELVIA_ROOM = 10   /* what was lent is too short; place: the words (reading) or bytes (writing) needed */
+    NOCTELVIA_SETTING = 6, /* a setting is out of range; place: its word, 2 to 6, the lowest; slots too long: word 4 */
+    NOCTELVIA_FIELD = 7,  /* a signal is out of range; place: the lowest such signal, from 1 */
+    NOCTELVIA_BOUND = 8,  /* no repetition keeps a signal's bound; place: the lowest such signal */
+    NOCTELVIA_SLOTS = 9,  /* more slots are needed than there are; place: the slots needed */
+    NOCTELVIA_ROOM = 10   /* what was lent is too short; place: the words, cells or bytes needed */
 };
 
 /* Reads a book: its signals, five words each (unit, period, offset, size, bound), into the first words of the lent
@@ -68,6 +72,20 @@ uint64_t noctelvia_write(uint32_t cycle_length, uint32_t slot_length, uint32_t s
 /* The byte of the book at which the twenty bytes of a signal (numbered from 1) start, or 0 where the book is refused
  * by numbers 1 to 5 or has no such signal. */
 uint64_t noctelvia_part(const uint8_t *book, size_t book_bytes, uint32_t signal);
+
+/* Plans a book: reads it, gives each signal the largest repetition that keeps its bound everywhere, and fills the
+ * shortest table. The results are four little-endian words a signal, 16 bytes, in list order: slot, base, repetition,
+ * age; bytes behind stay. Answers DONE with the slots used, what reading refuses (LENGTH to ZERO), or SETTING, ROOM
+ * (bytes needed), FIELD, BOUND or SLOTS, judged in this order; then no byte is changed. 9,600 bytes are always enough. */
+uint64_t noctelvia_plan(const uint8_t *book, size_t book_bytes, uint8_t *results, size_t result_bytes);
+
+/* Plans a list that is at hand as words, five a signal, and shows the table too: cell 64 * (k - 1) + c, for slot k and
+ * cycle c, holds the signal's number, or 0. Writes 64 cells for each slot of the segment and four words a signal; what
+ * lies behind stays. Answers DONE with the slots used, or SETTING, COUNT, ROOM (cells needed, then words needed),
+ * FIELD, BOUND or SLOTS, judged in this order; then nothing is changed. 8,192 cells and 2,400 words are always enough. */
+uint64_t noctelvia_plan_list(uint32_t cycle_length, uint32_t slot_length, uint32_t slots, uint32_t packing_time,
+                             uint32_t payload, const uint32_t *list, size_t list_words, uint32_t *cells,
+                             size_t cell_words, uint32_t *results, size_t result_words);
 
 #ifdef __cplusplus
 }

@@ -232,7 +232,8 @@ impl Library {
         let input_stands = self.memory(lent[0].len())? == lent[0];
         let (cells, results) = (self.memory(lent[1].len())?, self.memory(lent[2].len())?);
         let ((cells, one), (results, other)) = (opened(&cells, BESIDE_WORDS), opened(&results, BESIDE_WORDS));
-        Ok(LeftTwo { answer, cells: words_of(cells), results: words_of(results), guards_stand: one && other, input_stands })
+        let (cells, results) = (words_of(cells), words_of(results));
+        Ok(LeftTwo { answer, cells, results, guards_stand: one && other, input_stands })
     }
 
     /// Plans a book into results that hold the given bytes before.

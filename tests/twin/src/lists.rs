@@ -41,16 +41,14 @@ pub fn signal(random: &mut Random, settings: &Settings, unit: u32, repetition: u
     signal
 }
 
-/// The settings of the drawn kind with at most so many slots.
+/// Ordinary, small or extreme settings, with at most so many slots.
 fn settings(random: &mut Random, most: u32) -> Settings {
-    let Settings { slots, .. } = draw::ordinary(random).settings;
     let drawn = match random.below(3) {
         0 => draw::ordinary(random).settings,
         1 => draw::small(random).settings,
         _ => draw::extreme(random).settings,
     };
-    let slots = slots.min(drawn.slots).min(random.between(2, most));
-    Settings { slots, ..drawn }
+    Settings { slots: drawn.slots.min(random.between(2, most)), ..drawn }
 }
 
 /// Numbers of units, among them the ends of their range, in no order.
@@ -64,6 +62,12 @@ fn units(random: &mut Random, count: usize) -> Vec<u32> {
     all
 }
 
+/// From one to so many units.
+fn some_units(random: &mut Random, most: usize) -> Vec<u32> {
+    let count = 1 + random.index(most);
+    units(random, count)
+}
+
 pub fn shuffle<T>(random: &mut Random, items: &mut [T]) {
     for last in (1..items.len()).rev() {
         items.swap(last, random.index(last + 1));
@@ -73,7 +77,7 @@ pub fn shuffle<T>(random: &mut Random, items: &mut [T]) {
 /// So few slots, signals and short repetitions that every assignment can be tried.
 pub fn small(random: &mut Random) -> List {
     let settings = settings(random, 4);
-    let units = { let count = 1 + random.index(3); units(random, count) };
+    let units = some_units(random, 3);
     let longest = random.pick(&[1, 2, 2, 3]) as usize;
     let signals = (0..1 + random.index(2 + 2 * longest))
         .map(|_| {
@@ -88,7 +92,7 @@ pub fn small(random: &mut Random) -> List {
 /// Any repetitions, a few units, up to forty signals; accepted or refused 9.
 pub fn middling(random: &mut Random) -> List {
     let settings = settings(random, 24);
-    let units = { let count = 1 + random.index(6); units(random, count) };
+    let units = some_units(random, 6);
     let shortest = random.index(6);
     let signals = (0..random.index(40))
         .map(|_| {
@@ -208,7 +212,7 @@ mod tests {
     #[test]
     fn tight_lists_are_refused_at_times() {
         let mut random = Random::new(15);
-        let refused = (0..300).map(|_| tight(&mut random)).filter(|list| repetitions(&list.settings, &list.signals).contains(&0));
-        assert!((30..270).contains(&refused.count()));
+        let refused = |list: &List| repetitions(&list.settings, &list.signals).contains(&0);
+        assert!((30..270).contains(&(0..300).map(|_| tight(&mut random)).filter(refused).count()));
     }
 }

@@ -47,6 +47,22 @@ pub fn plan_book(bytes: &[u8], result_bytes: usize) -> (Answer, Vec<u8>) {
     (answer, bytes_of(&results))
 }
 
+/// What the planning program writes, line by line, for a list and the plan of it.
+pub fn lines(settings: &Settings, list: &[u32], planning: &Planning) -> Vec<String> {
+    let Answer { number, place } = planning.answer;
+    if number != 0 {
+        return vec![format!("REFUSED {number} {place}")];
+    }
+    let signals = signals_of(list);
+    let line = |(index, (signal, result)): (usize, (&Signal, &[u32]))| {
+        let words = result.iter().map(u32::to_string).collect::<Vec<String>>().join(" ");
+        format!("{} {} {words}", index + 1, signal.unit)
+    };
+    let first = format!("PLAN {} {place} {}", signals.len(), settings.slots);
+    let results = planning.results.chunks(RESULT_WORDS);
+    [first].into_iter().chain(signals.iter().zip(results).enumerate().map(line)).collect()
+}
+
 /// Refusals 6, 4, 10 and 7; the signals of a list that none of them refuses.
 fn judged(settings: &Settings, list: &[u32], cells_words: usize, results_words: usize) -> Result<Vec<Signal>, Answer> {
     let refused = |number, place| Err(Answer::new(number, place));
@@ -138,7 +154,7 @@ fn place(row: &mut [u32], frame: Frame, signal: usize) -> Result<(), Answer> {
 mod tests {
     use super::*;
     use crate::examples::{examples, Example};
-    use crate::lists;
+    use crate::lists::{self, List};
     use crate::random::Random;
     use crate::search::{search, Loose};
     use crate::table;
@@ -157,6 +173,18 @@ mod tests {
                 assert_eq!(given.results.len(), 4 * list.signals.len(), "{name}");
             }
         }
+    }
+
+    #[test]
+    fn the_whole_example_is_written_as_01_prints_it() {
+        let find = |name| examples().into_iter().find(|example| example.name == name).expect("it is listed").list;
+        let written = |list: List| {
+            let (settings, words) = (list.settings, list.words());
+            lines(&settings, &words, &plan(&settings, &words, 8_192, 2_400))
+        };
+        let whole = ["PLAN 3 2 93", "1 3 2 1 4 532", "2 3 2 0 2 3032", "3 1 1 0 1 516"];
+        assert_eq!(written(find("the whole example")), whole);
+        assert_eq!(written(find("case 11, 31 slots")), ["REFUSED 9 32"]);
     }
 
     #[test]
@@ -203,6 +231,31 @@ mod tests {
                 assert!(wrong.is_empty(), "{list:?}: {wrong:?}");
             }
         }
+    }
+
+    /// The answer for three signals under faults of settings, length, rooms and signals, as far as they are named.
+    fn answer(settings: [u32; 5], cut: usize, cells: usize, results: usize, third: [u32; 5]) -> Answer {
+        let good = [1, 10_000, 2_000, 16, 10_000];
+        let list = [good, good, third].concat();
+        plan(&Settings::from_words(settings), &list[cut..], cells, results).answer
+    }
+
+    #[test]
+    fn the_earlier_refusal_decides() {
+        let (good, stray) = ([2_500, 16, 2, 100, 8], [2_500, 16, 2, 16_001, 8]);
+        let [fitting, out, tight] = [[3, 5_000, 2_000, 64, 5_000], [0, 1, 0, 1, 1], [2, 5_000, 2_000, 64, 1]];
+        assert_eq!(answer(good, 0, 128, 12, fitting), Answer::new(0, 2));
+        assert_eq!(answer(stray, 1, 127, 11, out), Answer::new(6, 5));
+        assert_eq!(answer(good, 1, 127, 11, out), Answer::new(4, 0));
+        assert_eq!(answer(good, 0, 127, 11, out), Answer::new(10, 128));
+        assert_eq!(answer(good, 0, 128, 11, out), Answer::new(10, 12));
+        assert_eq!(answer(good, 0, 128, 12, out), Answer::new(7, 3));
+        assert_eq!(answer(good, 0, 128, 12, tight), Answer::new(8, 3));
+        let settings = Settings::from_words(good);
+        let whole = [1, 2_500, 2_000, 8, 2_500];
+        assert_eq!(plan(&settings, &[tight, whole, out].concat(), 128, 12).answer, Answer::new(7, 3));
+        assert_eq!(plan(&settings, &[whole, whole, tight, whole].concat(), 128, 16).answer, Answer::new(8, 3));
+        assert_eq!(plan(&settings, &[whole, whole, whole].concat(), 128, 12).answer, Answer::new(9, 3));
     }
 
     #[test]

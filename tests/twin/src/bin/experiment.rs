@@ -26,7 +26,7 @@ struct Experiment {
 
 const EXPERIMENTS: [Experiment; 4] = [
     Experiment { name: "bound = period, no offsets (tables 2 and 3)", longest_bound_ms: 2_000, offsets: false },
-    Experiment { name: "bound = min(period, 30 ms), no offsets (tables 4 and 5)", longest_bound_ms: 30, offsets: false },
+    Experiment { name: "bound = min(period, 30 ms), no offsets (4, 5)", longest_bound_ms: 30, offsets: false },
     Experiment { name: "bound = period, random offsets", longest_bound_ms: 2_000, offsets: true },
     Experiment { name: "bound = min(period, 30 ms), random offsets", longest_bound_ms: 30, offsets: true },
 ];
@@ -162,7 +162,8 @@ fn show_repetitions() {
         let period = milliseconds * MACROTICKS_IN_MS;
         let of = |experiment: &Experiment| {
             let signal = varied(&[Signal { unit: 1, period, offset: 0, size: SIZE, bound: period }], experiment)[0];
-            [natural(&signal), somewhere(&signal), repetition_by_formula(&SETTINGS, &signal)].map(|r| r.to_string()).join(", ")
+            let given = [natural(&signal), somewhere(&signal), repetition_by_formula(&SETTINGS, &signal)];
+            given.map(|repetition| repetition.to_string()).join(", ")
         };
         println!("| {milliseconds} | {} | {} |", of(&EXPERIMENTS[0]), of(&EXPERIMENTS[1]));
     }
@@ -184,7 +185,8 @@ fn main() -> ExitCode {
         let mut random = Random::new(1_000 * u64::from(low) + seed as u64);
         std::iter::repeat_with(|| drawn(&mut random, low)).find(|set| set.len() <= MOST_SIGNALS).unwrap_or_default()
     };
-    let all: Vec<Vec<Vec<Signal>>> = LOADS.iter().map(|&low| (0..sets).map(|seed| fitting(low, seed)).collect()).collect();
+    let at_load = |low: u32| (0..sets).map(|seed| fitting(low, seed)).collect();
+    let all: Vec<Vec<Vec<Signal>>> = LOADS.into_iter().map(at_load).collect();
     let counts = all.iter().map(|sets| sets.iter().map(Vec::len).sum::<usize>() / sets.len().max(1));
     println!("signals in a set, on average: {}", counts.map(|count| count.to_string()).collect::<Vec<_>>().join(", "));
     show_repetitions();

@@ -45,7 +45,9 @@ fn written_beside(guards_stand: bool, input_stands: bool) -> Vec<String> {
 }
 
 /// Plans a list into cells and results that hold the given words before.
-pub fn list(library: &mut Library, settings: &Settings, words: &[u32], cells: &[u32], results: &[u32]) -> Result<Compared> {
+pub fn list(
+    library: &mut Library, settings: &Settings, words: &[u32], cells: &[u32], results: &[u32],
+) -> Result<Compared> {
     let twin = plan(settings, words, cells.len(), results.len());
     let left = library.plan_list(settings, words, cells, results)?;
     let mut differences = Vec::new();

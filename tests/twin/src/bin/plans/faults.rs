@@ -37,12 +37,15 @@ fn strays(settings: &Settings) -> Vec<(Settings, u32)> {
         (3, &[16_001, 1 << 16, u32::MAX]),
         (4, &[0, 128, 1 << 28, u32::MAX]),
     ];
-    let with = |index: usize, value: u32| {
-        let mut words = settings.words();
-        words[index] = value;
-        (Settings::from_words(words), index as u32 + 2)
-    };
-    values.iter().flat_map(|(index, values)| values.iter().map(|&value| with(*index, value)).collect::<Vec<_>>()).collect()
+    let mut strays = Vec::new();
+    for (index, values) in values {
+        for &value in values {
+            let mut words = settings.words();
+            words[index] = value;
+            strays.push((Settings::from_words(words), index as u32 + 2));
+        }
+    }
+    strays
 }
 
 /// The signal with one field out of range, in the order of `FIELDS`, at times far out.
@@ -123,8 +126,8 @@ fn with_faults(run: &mut Run, faults: &[usize]) {
     let cells = short(run, exact_cells, faults.contains(&2));
     let results = short(run, exact_results, faults.contains(&3));
     if faults.contains(&1) {
-        let to = if run.random.once_in(2) { words.len() + 1 + run.random.index(4) } else { 3_005 + run.random.index(20) };
-        words = words.iter().copied().cycle().take(to).collect();
+        let length = [words.len() + 1 + run.random.index(4), 3_005 + run.random.index(20)][run.random.index(2)];
+        words = words.iter().copied().cycle().take(length).collect();
     }
     let mut stray_word = 0;
     if faults.contains(&0) {

@@ -8,7 +8,8 @@ use twin::terms::{Answer, Settings, MOST_SIGNALS};
 const LIST_KINDS: [&str; 24] = [
     "list gives 0", "list gives 4, not of five words", "list gives 4, over 600 signals",
     "list gives 6 at word 2", "list gives 6 at word 3", "list gives 6 at word 4", "list gives 6 at word 5",
-    "list gives 6 at word 6", "list gives 7 at signal 1", "list gives 7 at a later signal", "list gives 7 at signal 600",
+    "list gives 6 at word 6",
+    "list gives 7 at signal 1", "list gives 7 at a later signal", "list gives 7 at signal 600",
     "list gives 8 at signal 1", "list gives 8 at a later signal", "list gives 9, one slot too many",
     "list gives 9, several slots too many", "list gives 10 for cells", "list gives 10 for results",
     "list: no signal", "list: 600 signals", "list: all of 128 slots used", "list: no cell left free",

@@ -78,9 +78,9 @@ impl Run {
 
     /// Plans a list on both sides with so many cells and result words; then its book, if it has one.
     pub fn list(&mut self, settings: &Settings, words: &[u32], cells: usize, results: usize) -> Answer {
-        let (before_cells, before_results) = (damage::words(&mut self.random, cells), damage::words(&mut self.random, results));
+        let before = [cells, results].map(|length| damage::words(&mut self.random, length));
         let (bytes, again) = kept(settings, words, cells, results);
-        let done = compare::list(&mut self.library, settings, words, &before_cells, &before_results);
+        let done = compare::list(&mut self.library, settings, words, &before[0], &before[1]);
         let Compared { answer, differences, walked, full } = match done {
             Ok(compared) => compared,
             Err(error) => self.no_answer(error, &bytes, &again),

@@ -81,7 +81,12 @@ fn plan(book: &[u8]) {
     let s = reading.settings;
     let mut cells = [0u32; 8192];
     let mut results = [0u32; 2400];
-    let answer = planner::plan(s, first(&list, 5 * (signals as usize)), &mut cells, &mut results);
+    let answer = planner::plan(
+        s,
+        first(&list, 5 * (signals as usize)),
+        &mut cells,
+        &mut results,
+    );
     if terms::number(answer) != 0 {
         refuse(answer);
         return;

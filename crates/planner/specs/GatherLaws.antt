@@ -1,6 +1,6 @@
 -- Laws of a loop that gathers a unit's frames: where it starts, its step, and what it shows at its end.
 -- Assumes nothing.
-use mathlib.Core.Path.{_≡_, refl, _∙_, sym, ap, subst}
+use mathlib.Core.Path.{_≡_, refl, _∙_, sym, ap}
 use mathlib.Core.List.{List, [], _∷_, _++_, append-assoc, append-nil}
 use Prim.Native.Nat.{ℕ, suc, _+_, _*_, _-_, _≤_, _<_}
 use native.Mathlib.Nat.{add-sub-cancel}
@@ -8,11 +8,10 @@ use native.Mathlib.Numerals.{add-one}
 use native.Mathlib.Omega.{arith}
 use borrow.Author.Tests.{eq-eqb, ne-eqb}
 use lib.ListN.{length, drop, set, length-append}
-use Rattle.filling.specs.declared.UnitFrame.{UnitFrame}
 use Rattle.filling.specs.Ordered.{wordsOf}
 use Rattle.filling.specs.FrameWordLaws.{set-two}
 use Rattle.planner.specs.Lists.{count, signalAt}
-use Rattle.planner.specs.Filled.{keepIf, unitFrames, framesOfUnit}
+use Rattle.planner.specs.Filled.{unitFrames, framesOfUnit}
 use Rattle.planner.specs.Gathered.{Gathered}
 
 module _ (list : List ℕ) (R : ℕ → ℕ) (u : ℕ) where

@@ -1,12 +1,10 @@
 -- Laws of the judge: what the lowest signal that fails tells, that the slots needed depend on the repetitions of the
 -- list's own signals alone, and how each refusal of the signals is shown.
 use mathlib.Core.Path.{_≡_, refl, _∙_, sym, ap}
-use mathlib.Core.Bool.{Bool, true, false}
 use mathlib.Core.List.{List}
-use mathlib.Core.Logic.{dite, _⊎_, inl, inr}
+use mathlib.Core.Logic.{dite, inl, inr}
 use Prim.Native.Nat.{ℕ, zero, suc, _+_, _*_, _/_, _≤_, _<_}
 use native.Mathlib.Decide.{ℕ-discrete}
-use native.Mathlib.Nat.{suc-add, add-suc}
 use native.Mathlib.Omega.{arith}
 use lib.ListN.{length}
 use Rattle.terms.specs.declared.Settings.{Settings}
@@ -15,14 +13,14 @@ use Rattle.terms.specs.declared.Answer.{Answer}
 use Rattle.terms.specs.declared.Answer.the-variants.{Done, Field, Bound, Slots}
 use Rattle.terms.specs.Ranges.{Between, SettingsInRange, SignalInRange, Repetition}
 use Rattle.terms.specs.RepetitionLaws.{repetition-positive}
-use Rattle.rule.specs.Rule.{Keeps, segment, Largest}
+use Rattle.rule.specs.Rule.{Keeps, segment}
 use Rattle.rule.specs.RuleLaws.{largest-unique}
 use Rattle.cycles.specs.Loads.{slotsFor}
 use Rattle.filling.specs.SumLaws.{sum-ext}
 use Rattle.planner.specs.Lists.{CountInRange, count, signalAt, EachSignal, LowestWithout, Kept, Repetitions}
 use Rattle.planner.specs.Asked.{signalQuestions, questions}
 use Rattle.planner.specs.Filled.{unitLoad, needed}
-use Rattle.planner.specs.Judged.{LowestOrNone, repetitionIn, Judged, RepetitionsFound, Tallyable}
+use Rattle.planner.specs.Judged.{LowestOrNone, repetitionIn, Judged, Tallyable}
 use Rattle.planner.specs.LoadLaws.{loadFrom, load-of-unit, load-of-other, nothing-left}
 
 module _ (list : List ℕ) (P : Signal → Type 0) (r : ℕ) where
@@ -61,16 +59,17 @@ needed-same s list R Q p q =
     sum-ext (λ u. slotsFor (unitLoad list R u)) (λ u. slotsFor (unitLoad list Q u)) 256
     (λ u h. ap slotsFor (load-same list R Q u (count list) 1 (λ j a b. repetitions-same s list R Q p q j (a, omega arith))))
 
--- where all have a repetition, each is one of the seven
+-- where each signal's bound is kept, its repetition is one of the seven
+pub kept-seven : (s : Settings) (list : List ℕ) (R : ℕ → ℕ) → EachSignal list (Kept s) → Repetitions s list R
+    → (i : ℕ) → Between 1 (count list) i → Repetition (R i)
+kept-seven s list R kept found i b =
+    let k = kept i b in
+    found i b .has (λ z. omega (arith, found i b .largest (k .0) (k .1) (k .2), repetition-positive (k .0) (k .1))) .0
+
 pub found-seven : (s : Settings) (list words : List ℕ) (m : ℕ) → CountInRange list → m ≡ count list → 600 ≤ length words
     → EachSignal list (Kept s) → Repetitions s list (repetitionIn words) → Tallyable list m words
 found-seven s list words m c e l kept found =
-    record { right = c; counted = e; room = l; seven = λ i b. found i b .has (some i b) .0 }
-  where
-    some : (i : ℕ) → Between 1 (count list) i → repetitionIn words i ≡ 0 → ⊥
-    some i b z =
-        let k = kept i b in
-        omega (arith, found i b .largest (k .0) (k .1) (k .2), repetition-positive (k .0) (k .1))
+    record { right = c; counted = e; room = l; seven = kept-seven s list (repetitionIn words) kept found }
 
 module _ (s : Settings) (list words : List ℕ) where
   abbrev Outcome : Answer → Type 0

@@ -12,7 +12,7 @@ use Rattle.terms.specs.declared.Signal.{Signal}
 use Rattle.terms.specs.Ranges.{Between}
 use Rattle.rule.specs.Rule.{Keeps, segment, Largest}
 use Rattle.terms.specs.RepetitionLaws.{repetition-positive}
-use Rattle.planner.specs.Lists.{CountInRange, count, signalAt, EachSignal, LowestWithout, Kept}
+use Rattle.planner.specs.Lists.{CountInRange, count, signalAt, Kept}
 use Rattle.planner.specs.Judged.{LowestOrNone, repetitionIn, RepetitionsFound}
 
 -- each signal below i has the property, and i is the next, or one past the last

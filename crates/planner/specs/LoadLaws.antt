@@ -1,22 +1,19 @@
 -- Laws of a unit's load: it is tallied signal by signal, and stays small.
 use mathlib.Core.Path.{_≡_, refl, _∙_, sym, ap}
-use mathlib.Core.Bool.{Bool, true, false}
-use mathlib.Core.List.{List, [], _∷_}
+use mathlib.Core.List.{List}
 use mathlib.Core.Logic.{dite}
 use Prim.Native.Nat.{ℕ, zero, suc, _+_, _*_, _-_, _/_, _≤_, _<_}
 use native.Mathlib.Nat.{div-le-self, add-sub-cancel, zero-add}
 use native.Mathlib.Decide.{ℕ-discrete}
 use native.Mathlib.Numerals.{add-one}
 use native.Mathlib.Omega.{arith}
-use lib.Dec.{eqb}
 use borrow.Author.Tests.{eq-eqb, ne-eqb}
-use Rattle.terms.specs.Ranges.{Between, Repetition}
+use Rattle.terms.specs.Ranges.{Repetition}
 use Rattle.cycles.specs.Loads.{Tallied, mostLoad, slotsFor}
 use Rattle.cycles.specs.Loads.Tallied.{added, past, other}
-use Rattle.filling.specs.declared.UnitFrame.{UnitFrame}
 use Rattle.filling.specs.Sums.{sum, total}
 use Rattle.planner.specs.Lists.{count, signalAt}
-use Rattle.planner.specs.Filled.{keepIf, unitFrames, unitLoad}
+use Rattle.planner.specs.Filled.{unitFrames, unitLoad}
 
 -- a tally that has room for a repetition adds it
 pub tallied-adds : {load R r : ℕ} → Tallied load R r → Repetition R → load + 64 / R ≤ mostLoad → r ≡ load + 64 / R

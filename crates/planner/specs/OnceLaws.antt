@@ -1,9 +1,9 @@
 -- Laws of the filling counted: no cell is taken twice, no signal is placed twice, and the slots begun are those needed.
 -- Assumes nothing.
-use mathlib.Core.Path.{_≡_, refl, _∙_, sym, ap, ap₂, subst}
+use mathlib.Core.Path.{_≡_, refl, _∙_, sym, ap, ap₂}
 use mathlib.Core.List.{List, [], _∷_, _++_, map}
 use mathlib.Core.Logic.{dite, ⊎-elim}
-use Prim.Native.Nat.{ℕ, zero, suc, _+_, _*_, _/_, _^_, _≤_, _<_}
+use Prim.Native.Nat.{ℕ, zero, suc, _+_, _*_, _/_, _≤_, _<_}
 use native.Mathlib.Nat.{zero-add}
 use native.Mathlib.Decide.{ℕ-discrete}
 use native.Mathlib.Omega.{arith}
@@ -11,7 +11,7 @@ use Rattle.terms.specs.Ranges.{Between, Repetition}
 use Rattle.cycles.specs.Loads.{slotsFor}
 use Rattle.filling.specs.declared.UnitFrame.{UnitFrame}
 use Rattle.filling.specs.Sums.{sum, total, same}
-use Rattle.filling.specs.SumLaws.{same-cases, same-equal, same-apart, sum-ext}
+use Rattle.filling.specs.SumLaws.{same-cases, same-apart, sum-ext}
 use Rattle.filling.specs.Rows.{takes, share}
 use Rattle.filling.specs.Tables.{Placed, Each, cell, cells}
 use Rattle.filling.specs.Tables.Each.{empty, entry}
@@ -24,7 +24,7 @@ use Rattle.filling.specs.FillLaws.{repetition-power}
 use Rattle.filling.specs.Ordered.{ordered}
 use Rattle.filling.specs.OrderedLaws.{ordered-total, each-ordered, ordered-rising}
 use Rattle.planner.specs.Lists.{count, signalAt}
-use Rattle.planner.specs.Filled.{Place, unitFrames, framesOfUnit, unitLoad, needed, placesOf, unitsPlaced, filled}
+use Rattle.planner.specs.Filled.{unitFrames, framesOfUnit, unitLoad, needed, placesOf, unitsPlaced, filled}
 use Rattle.planner.specs.Shown.{Sent, sentOf, exponentsOf}
 use Rattle.planner.specs.GatherLaws.{frames-own, frames-other}
 use Rattle.planner.specs.OwnLaws.{OwnFrame, unit-seven, ordered-own}

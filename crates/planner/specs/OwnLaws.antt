@@ -14,7 +14,7 @@ use Rattle.filling.specs.declared.UnitFrame.{UnitFrame}
 use Rattle.filling.specs.declared.Filled.{Filled}
 use Rattle.filling.specs.declared.Filled.the-variants.{Slots}
 use Rattle.filling.specs.Sums.{total}
-use Rattle.filling.specs.Tables.{Placed, Each, Valid}
+use Rattle.filling.specs.Tables.{Each, Valid}
 use Rattle.filling.specs.Tables.Each.{empty, entry}
 use Rattle.filling.specs.TableLaws.{each-map, each-both}
 use Rattle.filling.specs.Runs.{State, start, placed, after, run, Rising}

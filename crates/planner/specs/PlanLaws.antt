@@ -14,7 +14,7 @@ use Rattle.planner.specs.AskedLaws.{done-not-refused}
 use Rattle.planner.specs.Filled.{needed, filled, CellsShow, ResultsShow}
 use Rattle.planner.specs.Judged.{repetitionIn, Judged}
 use Rattle.planner.specs.JudgedLaws.{found-seven}
-use Rattle.planner.specs.Planned.{Plan, Planned}
+use Rattle.planner.specs.Planned.{Planned}
 use Rattle.planner.specs.Planned.Planned.{refused, done}
 use Rattle.planner.specs.Shown.{Fillable}
 

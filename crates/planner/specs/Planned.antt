@@ -1,5 +1,4 @@
 -- What planning gives, for all inputs: an answer, the cells and the results at exit.
-use mathlib.Core.Path.{_≡_}
 use mathlib.Core.List.{List}
 use Prim.Native.Nat.{ℕ}
 use lib.ListN.{length}

@@ -4,7 +4,7 @@ use mathlib.Core.Path.{_≡_, refl, _∙_, sym, ap, subst}
 use mathlib.Core.List.{List, [], _∷_, List·Memᴰ, List·Memᴰ·not-nil, List·Memᴰ·cases-cons}
 use mathlib.Core.List.List·Memᴰ.{List·Memᴰ·head, List·Memᴰ·tail}
 use mathlib.Core.Logic.{_⊎_, inl, inr, ⊎-elim, dite}
-use Prim.Native.Nat.{ℕ, _+_, _*_, _-_, _/_, _%_, _≤_, _<_}
+use Prim.Native.Nat.{ℕ, _+_, _*_, _-_, _/_, _%_, _<_}
 use native.Mathlib.Decide.{ℕ-discrete, decLt}
 use native.Mathlib.Omega.{arith}
 use lib.ListN.{length, getD}
@@ -14,26 +14,18 @@ use Rattle.terms.specs.declared.Answer.{Answer}
 use Rattle.terms.specs.declared.Answer.the-variants.{Done}
 use Rattle.terms.specs.declared.Frame.{Frame}
 use Rattle.terms.specs.Ranges.{Between, Repetition}
-use Rattle.terms.specs.RepetitionLaws.{repetition-positive}
 use Rattle.age.specs.Age.{Age, firstStart, spanOf}
 use Rattle.age.specs.AgeLaws.{age-unique}
 use Rattle.cycles.specs.Frames.{Names}
 use Rattle.cycles.specs.FrameLaws.{named-remainder, remainder-named}
-use Rattle.planner.specs.Lists.{count, signalAt, EachSignal, Kept, Repetitions}
+use Rattle.planner.specs.Lists.{count, signalAt}
 use Rattle.planner.specs.Asked.{Passed, questions}
 use Rattle.planner.specs.AskedLaws.{passed-not-refused, refused-unique}
 use Rattle.planner.specs.Filled.{Place, needed, filled, CellsShow, ResultsShow}
-use Rattle.planner.specs.JudgedLaws.{repetitions-same, needed-same}
+use Rattle.planner.specs.JudgedLaws.{repetitions-same, needed-same, kept-seven}
 use Rattle.planner.specs.Planned.{Plan, Planned}
 use Rattle.planner.specs.Planned.Planned.{refused, done}
 use Rattle.planner.specs.CoverLaws.{filled-same, filled-own, PlacedIn, filled-place}
-
--- where each signal's bound is kept, its repetition is one of the seven
-seven-of : (s : Settings) (list : List ℕ) (R : ℕ → ℕ) → EachSignal list (Kept s) → Repetitions s list R
-    → (i : ℕ) → Between 1 (count list) i → Repetition (R i)
-seven-of s list R kept found i b =
-    let k = kept i b in
-    found i b .has (λ z. omega (arith, found i b .largest (k .0) (k .1) (k .2), repetition-positive (k .0) (k .1))) .0
 
 -- ---- cells
 
@@ -71,9 +63,6 @@ module _ (slots : ℕ) (R : ℕ → ℕ) (ps : List Place) (seven : (p : Place) 
   same-cell : (j : ℕ) → getD a j 0 ≡ getD b j 0
   same-cell j = dite (decLt j (64 * slots)) within (λ n. p .later j (omega arith) ∙ sym (q .later j (omega arith)))
     where
-      k : ℕ
-      k = j / 64 + 1
-
       at : 64 * (j / 64 + 1 - 1) + j % 64 ≡ j
       at = omega arith
 
@@ -179,7 +168,7 @@ module _ (s : Settings) (list cells results : List ℕ) where
         same = repetitions-same s list R Q (p .repetitions) (q .repetitions)
 
         seven : (i : ℕ) → Between 1 (count list) i → Repetition (R i)
-        seven = seven-of s list R (passed .1 .1 .1 .1 .1 .0) (p .repetitions)
+        seven = kept-seven s list R (passed .1 .1 .1 .1 .1 .0) (p .repetitions)
 
         own : (x : Place) → List·Memᴰ x (filled list R) → Between 1 (count list) (x .signal)
         own = filled-own list R seven

@@ -9,7 +9,7 @@ use native.Mathlib.Omega.{arith}
 use lib.ListN.{length, getD}
 use Rattle.filling.specs.Sums.{total}
 use Rattle.filling.specs.Tables.{Each}
-use Rattle.filling.specs.Tables.Each.{empty, entry}
+use Rattle.filling.specs.Tables.Each.{entry}
 use Rattle.planner.specs.Shown.{Wrote}
 
 module _ {A : Type 0} where

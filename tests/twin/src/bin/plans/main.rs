@@ -18,7 +18,7 @@ use twin::library::{words_of, Library};
 use twin::random::Random;
 use twin::terms::Settings;
 
-const COUNT: u64 = 10_000;
+const COUNT: u64 = 1_500;
 
 fn all(library: Library, seed: u64, count: u64, with_books: bool) -> ExitCode {
     println!("plans: seed {seed}, count {count}{}", if with_books { "" } else { ", lists alone" });

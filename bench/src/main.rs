@@ -1,6 +1,7 @@
-// Measures `repetition` and `plan` over 600 signals at 128 slots, library and twin in turn: `bench [ROUNDS]`.
+// Measures repetitions, books and plans of 600 signals at 128 slots, library and twin in turn: `bench [ROUNDS]`.
 // `bench SIDE MIX` (library, twin or nothing; a name that `bench mixes` lists) does the work once, to be counted.
 
+mod book;
 mod plan;
 
 use std::hint::black_box;
@@ -113,6 +114,8 @@ fn mixes() -> Vec<Mix> {
     let mut mixes = vec![
         Mix { name: "first", signals: kept_at_first(), library, twin, wanted: sum(64) },
         Mix { name: "late", signals: failing_late(), library, twin, wanted: sum(32) },
+        Mix { name: "read", signals: kept_at_first(), library: book::read_by_library, twin: book::read_by_twin, wanted: None },
+        Mix { name: "write", signals: kept_at_first(), library: book::write_by_library, twin: book::write_by_twin, wanted: None },
     ];
     match plan::LIBRARY {
         Some(library) => {

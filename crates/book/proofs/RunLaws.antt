@@ -4,14 +4,16 @@ use mathlib.Core.Path.{_≡_, refl, sym, ap, _∙_, subst}
 use mathlib.Core.Bool.{Bool, true, false, cond}
 use mathlib.Core.List.{List, [], _∷_, _++_}
 use mathlib.Core.Logic.{⊎-elim, _⊎_, inl, inr}
-use Prim.Native.Nat.{ℕ, zero, suc, _+_, _%_, _^_, _≤_, _<_}
+use Prim.Native.Nat.{ℕ, zero, suc, _+_, _/_, _%_, _^_, _≤_, _<_}
 use native.Mathlib.Nat.{not-suc-le-zero, eq-or-lt-of-le}
 use native.Mathlib.Numerals.{add-one}
 use native.Mathlib.Decide.{decLt}
 use native.Mathlib.Omega.{arith}
 use lib.ListN.{length, getD, drop, set, length-append, List·getD-append, List·getD-eq-default}
 use lib.Seq.{drop-cons, set-at, getD-at, append-snoc, ext-getD}
+use lib.Dec.{eqb}
 use borrow.Author.Count.{below-more}
+use borrow.Author.Tests.{eq-eqb, ne-eqb}
 use Rattle.book.specs.Words.{AllBelow, upTo, sumUpTo, firstFrom, firstFailing}
 
 pub below-or-past : (i n : ℕ) → (i < n) ⊎ (n ≤ i)
@@ -71,6 +73,24 @@ sum-more f n = ap (sumUpTo f) (add-one n)
 -- one word more in a sum that starts at 1 and is kept to 32 bits
 pub sum-kept : (f : ℕ → ℕ) (n s x : ℕ) → s ≡ (sumUpTo f n + 1) % 2 ^ 32 → x ≡ f n → (s + x) % 2 ^ 32 ≡ (sumUpTo f (n + 1) + 1) % 2 ^ 32
 sum-kept f n s x before here = omega (arith, sum-more f n)
+
+-- the same over the words of all blocks: past word 127, a block's last, the sum of the next block starts
+pub sum-past-word : (f : ℕ → ℕ → ℕ) (p s x : ℕ) → s ≡ (sumUpTo (f (p / 128)) (p % 128) + 1) % 2 ^ 32
+    → (p % 128 < 127 → x ≡ f (p / 128) (p % 128))
+    → cond (eqb (p % 128) 127) 1 ((s + x) % 2 ^ 32) ≡ (sumUpTo (f ((p + 1) / 128)) ((p + 1) % 128) + 1) % 2 ^ 32
+unfolding sumUpTo
+sum-past-word f p s x before here =
+    ⊎-elim
+    (λ low.
+    let same : p / 128 ≡ (p + 1) / 128 = omega arith in
+    let next : p % 128 + 1 ≡ (p + 1) % 128 = omega arith in
+    simp (ne-eqb (p % 128) 127 (λ e. omega arith))
+    (sum-kept (f (p / 128)) (p % 128) s x before (here low) ∙ (λ i. (sumUpTo (f (same i)) (next i) + 1) % 2 ^ 32)))
+    (λ high.
+    let last : p % 128 ≡ 127 = omega arith in
+    let first : 0 ≡ (p + 1) % 128 = omega arith in
+    simp (eq-eqb (p % 128) 127 last) (λ i. (sumUpTo (f ((p + 1) / 128)) (first i) + 1) % 2 ^ 32))
+    (below-or-past (p % 128) 127)
 
 pub sum-same : (f g : ℕ → ℕ) (n : ℕ) → ((i : ℕ) → i < n → f i ≡ g i) → sumUpTo f n ≡ sumUpTo g n
 unfolding sumUpTo

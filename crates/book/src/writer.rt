@@ -5,10 +5,12 @@ use crate::layout::signals_in;
 use crate::words::put_word;
 use terms::Settings;
 ghost use mathlib.Core.Path.{_≡_};
-ghost use Prim.Native.Nat.{_*_, _/_, _^_, _≤_, _<_};
+ghost use mathlib.Core.Bool.{cond};
+ghost use Prim.Native.Nat.{_+_, _*_, _/_, _%_, _^_, _≤_, _<_};
+ghost use lib.Dec.{eqb};
 ghost use mathlib.Core.List.{_++_};
 ghost use lib.ListN.{length, drop, getD};
-ghost use Rattle.book.specs.Words.{bytesOf, checkOf};
+ghost use Rattle.book.specs.Words.{sumUpTo, bytesOf};
 ghost use Rattle.book.specs.Blocks.{settingsBlock, signalBlock, bodyWord, blockWord, bookWord};
 
 // Word w of the settings block before its check.
@@ -77,29 +79,25 @@ fn body_word(s: Settings, list: &[u32], k: usize, w: usize) -> u32
     signal_word(list, k, w)
 }
 
-// The check of block k, added with wrapping on purpose: 01 keeps the sum to 32 bits.
-fn check_for(s: Settings, list: &[u32], k: usize) -> u32
-    requires { ⌜ (k < 2 ^ 32) × (length (now list) / 5 ≤ 600) ⌝ }
-    ensures { λ r. ⌜ r ≡ checkOf (bodyWord s (now (list .entry)) k) ⌝ }
-{
-    let mut sum: u32 = 1;
-    let mut w: usize = 0;
-    while w < 127 {
-        sum = std::num::wrapping_add_u32(sum, body_word(s, list, k, w));
-        w += 1;
-    }
-    sum
-}
-
-// Word w of block k.
-fn block_word(s: Settings, list: &[u32], k: usize, w: usize) -> u32
-    requires { ⌜ (k < 2 ^ 32) × (length (now list) / 5 ≤ 600) ⌝ }
+// Word w of block k. The sum is that of 1 and the words before it, so at word 127 it is the check.
+fn block_word(s: Settings, list: &[u32], k: usize, w: usize, sum: u32) -> u32
+    requires { ⌜ (k < 2 ^ 32) × (length (now list) / 5 ≤ 600) × (sum ≡ (sumUpTo (bodyWord s (now list) k) w + 1) % 2 ^ 32) ⌝ }
     ensures { λ r. ⌜ r ≡ blockWord s (now (list .entry)) k w ⌝ }
 {
     if w == 127 {
-        return check_for(s, list, k);
+        return sum;
     }
     body_word(s, list, k, w)
+}
+
+// The sum past word w, which is x, added with wrapping on purpose: 01 keeps it to 32 bits. Past the check a new one starts at 1.
+fn sum_past(sum: u32, w: usize, x: u32) -> u32
+    ensures { λ r. ⌜ r ≡ cond (eqb w 127) 1 ((sum + x) % 2 ^ 32) ⌝ }
+{
+    if w == 127 {
+        return 1;
+    }
+    std::num::wrapping_add_u32(sum, x)
 }
 
 // The first words of the room become the book's; all that lies behind stays.
@@ -108,9 +106,13 @@ pub(crate) fn fill(s: Settings, list: &[u32], room: &mut [u8], blocks: usize)
     ensures { λ _. ⌜ now (room .exit) ≡ bytesOf (bookWord s (now (list .entry))) (128 * blocks) ++ drop (512 * blocks) (now (room .entry)) ⌝ }
 {
     let words = 128 * blocks;
+    let mut sum: u32 = 1;
     let mut p: usize = 0;
     while p < words {
-        put_word(room, p, block_word(s, list, p / 128, p % 128));
+        let w = p % 128;
+        let x = block_word(s, list, p / 128, w, sum);
+        put_word(room, p, x);
+        sum = sum_past(sum, w, x);
         p += 1;
     }
 }

@@ -1,16 +1,20 @@
 -- `book::writer::block_word` meets its contract: word 127 is the check, every other one the body's.
+use mathlib.Core.Path.{ap, _∙_}
+use Prim.Native.Nat.{ℕ, _+_, _%_, _^_}
 use borrow.Author.Tests.{eq-eqb, ne-eqb}
 use borrow.Author.Needs.{needs}
-use Rattle.book.specs.Blocks.{blockWord}
+use Rattle.book.specs.Words.{sumUpTo, checkOf}
+use Rattle.book.specs.Blocks.{bodyWord, blockWord}
 use Rattle.book.proofs.writer.block_word.Statement.{statement}
 use Rattle.book.proofs.writer.block_word.Tie as tie
 
-check-for-requires : tie.Need-check-for-requires
-check-for-requires c κs = search needs
-
 returns : tie.Need-returns
-unfolding blockWord
-returns c = simp (eq-eqb _ _ (c .before .if1 .taken)) (c .check-for .ensures)
+unfolding blockWord checkOf
+returns c =
+    let start = c .before .before in
+    simp (eq-eqb _ _ (c .if1 .taken))
+    (start .pre .2
+    ∙ ap (λ (w : ℕ). (sumUpTo (bodyWord (start .args .s) (start .args .list .now) (start .args .k)) w + 1) % 2 ^ 32) (c .if1 .taken))
 
 body-word-requires : tie.Need-body-word-requires
 body-word-requires c κs = search needs
@@ -20,4 +24,4 @@ unfolding blockWord
 returns-2 c = simp (ne-eqb _ _ (c .before .if1 .left)) (c .body-word .ensures)
 
 pub block-word-spec : {M : Type 1} → statement M
-block-word-spec = tie.close (tie.spec check-for-requires returns body-word-requires returns-2)
+block-word-spec = tie.close (tie.spec returns body-word-requires returns-2)

@@ -1,33 +1,47 @@
--- `book::writer::fill` meets its contract. The loop's invariant: the bytes of the first p words are the book's, and what lies behind is as it was.
+-- `book::writer::fill` meets its contract. The loop's invariant: the bytes of the first p words are the book's, what lies
+-- behind is as it was, and the sum is that of 1 and the words of the block so far.
 use mathlib.Core.Path.{_≡_, refl, ap, _∙_}
 use mathlib.Core.List.{List, _++_}
-use Prim.Native.Nat.{ℕ, _+_, _-_, _*_, _≤_}
+use Prim.Native.Nat.{ℕ, _+_, _-_, _*_, _/_, _%_, _^_, _≤_}
 use native.Mathlib.Omega.{arith}
 use lib.ListN.{length, drop}
 use borrow.Author.Needs.{needs}
-use Rattle.book.specs.Words.{withWord, bytesOf}
-use Rattle.book.specs.Blocks.{bookWord}
+use Rattle.book.specs.Words.{sumUpTo, withWord, bytesOf}
+use Rattle.book.specs.Blocks.{bodyWord, bookWord}
+use Rattle.book.proofs.RunLaws.{sum-none, sum-past-word}
 use Rattle.book.proofs.WordLaws.{bytes-none, bytes-more}
+use Rattle.book.proofs.WrittenLaws.{block-body}
 use Rattle.book.proofs.writer.fill.Statement.{statement}
 use Rattle.book.proofs.writer.fill.Tie as tie
 
 abbrev Inv-loop : tie.InvT-loop
-Inv-loop s list room₀ blocks words p₀ room p = (p ≤ words) × (room ≡ bytesOf (bookWord s list) p ++ drop (4 * p) room₀) × (length room ≡ length room₀)
+Inv-loop s list room₀ blocks words sum₀ p₀ room sum p =
+    (p ≤ words) × (room ≡ bytesOf (bookWord s list) p ++ drop (4 * p) room₀) × (length room ≡ length room₀)
+    × (sum ≡ (sumUpTo (bodyWord s list (p / 128)) (p % 128) + 1) % 2 ^ 32)
 
 abbrev μ-loop : tie.MeasureT-loop
-μ-loop s list room₀ blocks words p₀ room p = words - p
+μ-loop s list room₀ blocks words sum₀ p₀ room sum p = words - p
 
 mul-words : tie.Need-mul-words Inv-loop μ-loop
 mul-words c = search needs
 
 loop-holds : tie.Need-loop-holds Inv-loop μ-loop
-loop-holds c = (omega arith, bytes-none (bookWord (c .before .before .args .s) (c .before .before .args .list .now)) (c .before .before .args .room .now), refl)
+loop-holds c =
+    let start = c .before .before .args in (
+      omega arith,
+      bytes-none (bookWord (start .s) (start .list .now)) (start .room .now),
+      refl,
+      omega (arith, sum-none (bodyWord (start .s) (start .list .now) 0)),
+    )
 
 block-word-requires : tie.Need-block-word-requires Inv-loop μ-loop
 block-word-requires c κs = search needs
 
 put-word-requires : tie.Need-put-word-requires Inv-loop μ-loop
 put-word-requires c κs = search needs
+
+sum-past-requires : tie.Need-sum-past-requires Inv-loop μ-loop
+sum-past-requires c κs = search needs
 
 add-p : tie.Need-add-p Inv-loop μ-loop
 add-p c = search needs
@@ -38,14 +52,19 @@ loop-less c = search needs
 loop-again : tie.Need-loop-again Inv-loop μ-loop
 unfolding bookWord
 loop-again c =
-    let start = c .before .before .before .before .before .before .before .before .before .args in
-    let head = c .before .before .before .before .before .before .loop in
-    let put : 4 * head .p + 4 ≤ length (start .room .now) = omega arith in (
+    let start = c .before .before .before .before .before .before .before .before .before .before .args in
+    let head = c .before .before .before .before .before .before .before .loop in
+    let made = c .before .before .before .before .before .block-word in
+    let put = c .before .before .before .put-word in
+    let fits : 4 * head .p + 4 ≤ length (start .room .now) = omega arith in (
       omega arith,
-      c .before .before .put-word .ensures
-          ∙ ap (λ (r : List ℕ). withWord r (head .p) (c .before .before .before .block-word .result)) (head .inv .1)
-          ∙ bytes-more (bookWord (start .s) (start .list .now)) (start .room .now) (head .p) (c .before .before .before .block-word .result) put (c .before .before .before .block-word .ensures),
-      c .before .before .put-word .kept .0 ∙ head .inv .2,
+      put .ensures
+          ∙ ap (λ (r : List ℕ). withWord r (head .p) (made .result)) (head .inv .1)
+          ∙ bytes-more (bookWord (start .s) (start .list .now)) (start .room .now) (head .p) (made .result) fits (made .ensures),
+      put .kept .0 ∙ head .inv .2,
+      c .sum-past .ensures
+          ∙ sum-past-word (bodyWord (start .s) (start .list .now)) (head .p) (head .sum) (made .result) (head .inv .3)
+          (λ low. made .ensures ∙ block-body (start .s) (start .list .now) (head .p / 128) (head .p % 128) low),
     )
 
 same-length : tie.Need-same-length Inv-loop μ-loop
@@ -71,6 +90,7 @@ fill-spec =
     loop-holds
     block-word-requires
     put-word-requires
+    sum-past-requires
     add-p
     loop-less
     loop-again

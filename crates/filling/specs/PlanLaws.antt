@@ -58,7 +58,7 @@ plan-grows f (suc n) u k = le-trans (end-grows (start k) (f u)) (plan-grows f n 
 -- ---- a run put before other frames
 
 module _ (u : ℕ) (ts : List Owned) where
-  own-total : (g : Placed → ℕ) (ps : List Placed) → total g (frames (map (own u) ps ++ ts)) ≡ total g ps + total g (frames ts)
+  pub own-total : (g : Placed → ℕ) (ps : List Placed) → total g (frames (map (own u) ps ++ ts)) ≡ total g ps + total g (frames ts)
   unfolding total
   own-total g [] = sym (zero-add (total g (frames ts)))
   own-total g (p ∷ ps) = omega (arith, own-total g ps)

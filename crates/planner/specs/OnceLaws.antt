@@ -1,7 +1,7 @@
 -- Laws of the filling counted: no cell is taken twice, no signal is placed twice, and the slots begun are those needed.
 -- Assumes nothing.
 use mathlib.Core.Path.{_≡_, refl, _∙_, sym, ap, ap₂}
-use mathlib.Core.List.{List, [], _∷_, _++_, map}
+use mathlib.Core.List.{List, [], _∷_}
 use mathlib.Core.Logic.{dite, ⊎-elim}
 use Prim.Native.Nat.{ℕ, zero, suc, _+_, _*_, _/_, _≤_, _<_}
 use native.Mathlib.Nat.{zero-add}
@@ -13,12 +13,12 @@ use Rattle.filling.specs.declared.UnitFrame.{UnitFrame}
 use Rattle.filling.specs.Sums.{sum, total, same}
 use Rattle.filling.specs.SumLaws.{same-cases, same-apart, sum-ext}
 use Rattle.filling.specs.Rows.{takes, share}
-use Rattle.filling.specs.Tables.{Placed, Each, cell, cells}
+use Rattle.filling.specs.Tables.{Each, cell, cells}
 use Rattle.filling.specs.Tables.Each.{empty, entry}
 use Rattle.filling.specs.Runs.{State, start, placed, after, run}
-use Rattle.filling.specs.Units.{Owned, frames}
-use Rattle.filling.specs.Plans.{last, own, plan, planEnd}
-use Rattle.filling.specs.PlanLaws.{AllRising, plan-slots, plan-table}
+use Rattle.filling.specs.Units.{frames}
+use Rattle.filling.specs.Plans.{last, plan, planEnd}
+use Rattle.filling.specs.PlanLaws.{AllRising, own-total, plan-slots, plan-table}
 use Rattle.filling.specs.FrameWords.{exponent, exponents, Seven}
 use Rattle.filling.specs.FillLaws.{repetition-power}
 use Rattle.filling.specs.Ordered.{ordered}
@@ -33,11 +33,6 @@ use Rattle.planner.specs.WroteLaws.{total-append}
 -- how often a frame takes cycle c of slot k
 abbrev pub takesCell : Sent → ℕ → ℕ → ℕ
 takesCell x k c = same (x .frame .slot) k * takes (exponent (x .frame .repetition)) (x .frame .base) c
-
-own-total : (g : Placed → ℕ) (u : ℕ) (ps : List Placed) (ts : List Owned) → total g (frames (map (own u) ps ++ ts)) ≡ total g ps + total g (frames ts)
-unfolding total
-own-total g u [] ts = sym (zero-add (total g (frames ts)))
-own-total g u (p ∷ ps) ts = omega (arith, own-total g u ps ts)
 
 module _ (list : List ℕ) (R : ℕ → ℕ) (seven : (i : ℕ) → Between 1 (count list) i → Repetition (R i)) where
   pub rising : AllRising (exponentsOf list R)
@@ -62,7 +57,7 @@ module _ (list : List ℕ) (R : ℕ → ℕ) (seven : (i : ℕ) → Between 1 (c
         let fs = ordered (framesOfUnit list R u) in
         total-append (λ p. takesCell (sentOf R p) k c) (placesOf fs (run (start j) (exponents fs))) (unitsPlaced list R n (suc u) (last j (exponents fs)))
         ∙ ap₂ (λ (x y : ℕ). x + y) (places-cells u fs (ordered-own list R seven u) (start j)) (units-cells n (suc u) (last j (exponents fs)))
-        ∙ sym (own-total (λ q. cell q k c) u (run (start j) (exponents fs)) (plan (exponentsOf list R) n (suc u) (last j (exponents fs))))
+        ∙ sym (own-total u (plan (exponentsOf list R) n (suc u) (last j (exponents fs))) (λ q. cell q k c) (run (start j) (exponents fs)))
 
     -- no cell is taken twice
     pub cells-once : c < 64 → total (λ p. takesCell (sentOf R p) k c) (filled list R) ≤ 1

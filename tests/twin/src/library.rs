@@ -187,9 +187,14 @@ impl Library {
         let mut arguments = settings.words().to_vec();
         arguments.extend([(INPUT + BESIDE_WORDS) as u32, list.len() as u32]);
         arguments.extend([(ROOM + BESIDE_BYTES) as u32, room.len() as u32]);
-        self.put(INPUT, &input)?;
-        self.put(ROOM, &lent)?;
-        self.call(Function::Write, &arguments)?;
+        self.left_by(Function::Write, &arguments, &input, &lent)
+    }
+
+    /// Calls a function that is lent an input to read and bytes to fill, both with their guards.
+    fn left_by(&mut self, function: Function, arguments: &[u32], input: &[u8], lent: &[u8]) -> Result<Left> {
+        self.put(INPUT, input)?;
+        self.put(ROOM, lent)?;
+        self.call(function, arguments)?;
         self.get(ROOM, lent.len())?;
         self.get(INPUT, input.len())?;
         self.send()?;
@@ -240,17 +245,8 @@ impl Library {
     pub fn plan(&mut self, book: &[u8], results: &[u8]) -> Result<Left> {
         let (input, lent) = (guarded(book, BESIDE_BYTES), guarded(results, BESIDE_BYTES));
         let (at, room_at) = ((INPUT + BESIDE_BYTES) as u32, (ROOM + BESIDE_BYTES) as u32);
-        self.put(INPUT, &input)?;
-        self.put(ROOM, &lent)?;
-        self.call(Function::Plan, &[at, book.len() as u32, room_at, results.len() as u32])?;
-        self.get(ROOM, lent.len())?;
-        self.get(INPUT, input.len())?;
-        self.send()?;
-        let answer = self.answer()?;
-        let lent = self.memory(lent.len())?;
-        let input_stands = self.memory(input.len())? == input;
-        let (room, guards_stand) = opened(&lent, BESIDE_BYTES);
-        Ok(Left { answer, room: room.to_vec(), guards_stand, input_stands })
+        let arguments = [at, book.len() as u32, room_at, results.len() as u32];
+        self.left_by(Function::Plan, &arguments, &input, &lent)
     }
 }
 

@@ -22,11 +22,15 @@ impl Reached {
         self.kinds.iter().filter(|(kind, _)| kind == name).map(|(_, times)| times).sum()
     }
 
-    /// One line for each kind, in the order in which they were named.
-    pub fn print(&self) {
+    /// Prints one line for each kind, in the order in which they were named; whether each was reached.
+    pub fn report(&self) -> bool {
         for (kind, times) in &self.kinds {
             println!("  {kind}: {times}");
         }
+        for kind in self.missing() {
+            println!("NEVER REACHED {kind}");
+        }
+        self.missing().is_empty()
     }
 
     /// The kinds that were never reached.

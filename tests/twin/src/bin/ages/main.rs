@@ -59,13 +59,9 @@ fn all(library: Library, seed: u64, count: u64) -> ExitCode {
     println!("ages: seed {seed}, count {count}");
     let mut run = Run::new(library, seed);
     tour::all(&mut run, count);
-    run.reached.print();
-    let missing = run.reached.missing();
-    for kind in &missing {
-        println!("NEVER REACHED {kind}");
-    }
+    let whole = run.reached.report();
     println!("ages: {} ages, {} repetitions, {} differ", run.ages, run.repetitions, run.differ);
-    if run.differ == 0 && missing.is_empty() { ExitCode::SUCCESS } else { ExitCode::FAILURE }
+    if run.differ == 0 && whole { ExitCode::SUCCESS } else { ExitCode::FAILURE }
 }
 
 /// What the arguments ask for; None where they ask for nothing known.

@@ -112,4 +112,12 @@ impl Slot {
             free: self.free & !cycles,
         }
     }
+
+    // The step that places a frame: in the slot lent to it the frame's cycles are cleared, and the unit stays.
+    pub fn clear(&mut self, repetition: u32, base: u32)
+        ensures { λ _. ⌜ Taken (now (self .entry)) repetition base (now (self .exit)) ⌝ }
+    {
+        let slot = *self;
+        *self = slot.take(repetition, base);
+    }
 }

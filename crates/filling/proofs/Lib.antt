@@ -1,3 +1,3 @@
 pub mod Going
-pub mod Inserting
+pub mod Turning
 pub mod Unique

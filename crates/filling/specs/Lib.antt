@@ -3,6 +3,7 @@ pub mod SumLaws
 pub mod Rows
 pub mod RowLaws
 pub mod Tables
+pub mod Turns
 pub mod TableLaws
 pub mod Runs
 pub mod RunLaws

@@ -11,9 +11,9 @@ use Rattle.filling.specs.Runs.{State, room}
 use Rattle.filling.specs.Fills.{Fill, Ran}
 use Rattle.filling.specs.Fills.Fill.{done, fits, troubled}
 use Rattle.filling.specs.Fills.Ran.{filled, idle}
-use Rattle.filling.specs.Ordered.{orderedWords}
+use Rattle.filling.specs.Ordered.{ordered}
 
-pub order-unique : (frames a b : List ℕ) → a ≡ orderedWords frames → b ≡ orderedWords frames → a ≡ b
+pub order-unique : (frames a b : List UnitFrame) → a ≡ ordered frames → b ≡ ordered frames → a ≡ b
 order-unique frames a b p q = p ∙ sym q
 
 fill-unique : {s : State} {fs : List UnitFrame} {v w : List ℕ} {q r : Filled} → Fill s fs v q → Fill s fs w r → (v ≡ w) × (q ≡ r)

@@ -21,5 +21,3 @@ pub mod Steps
 pub mod StepLaws
 pub mod Ordered
 pub mod OrderedLaws
-pub mod OrderedWordLaws
-pub mod PlaceLaws

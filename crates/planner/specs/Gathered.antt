@@ -1,12 +1,12 @@
--- A unit's frames gathered as words at the front of lent words.
+-- A unit's frames gathered as records at the front of an array.
 use mathlib.Core.Path.{_≡_}
-use mathlib.Core.List.{List, _++_}
-use Prim.Native.Nat.{ℕ, _≤_}
-use lib.ListN.{length, drop}
+use mathlib.Core.List.{List}
+use Prim.Native.Nat.{_≤_}
+use lib.ListN.{length, take}
 use Rattle.filling.specs.declared.UnitFrame.{UnitFrame}
-use Rattle.filling.specs.Ordered.{wordsOf}
+use Rattle.planner.specs.declared.fill.UnitFrames.{UnitFrames}
 
-pub record Gathered (fs : List UnitFrame) (entry : List ℕ) (words : ℕ) (exit : List ℕ) : Type 0 where
-  pub words-of : words ≡ length (wordsOf fs)
-  pub few : words ≤ 1200
-  pub written : exit ≡ wordsOf fs ++ drop words entry
+pub record Gathered (fs : List UnitFrame) (r : UnitFrames) : Type 0 where
+  pub many : r .count ≡ length fs
+  pub few : r .count ≤ 600
+  pub first : take (r .count) (r .frames) ≡ fs

@@ -8,6 +8,7 @@ pub mod LoadLaws
 pub mod JudgedLaws
 pub mod Gathered
 pub mod GatherLaws
+pub mod PutLaws
 pub mod Shown
 pub mod PaintLaws
 pub mod ShowLaws

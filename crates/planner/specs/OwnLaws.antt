@@ -23,7 +23,7 @@ use Rattle.filling.specs.FewestLaws.{run-table, start-past}
 use Rattle.filling.specs.FrameWords.{framesOf, exponent, exponents, Seven}
 use Rattle.filling.specs.Fills.{Ran, RanAs, placeWords}
 use Rattle.filling.specs.FillLaws.{repetition-power, ran-rising}
-use Rattle.filling.specs.Ordered.{ordered, wordsOf, oddWord, orderedWords}
+use Rattle.filling.specs.Ordered.{ordered, wordsOf}
 use Rattle.filling.specs.OrderedLaws.{ordered-total, each-ordered, ordered-rising}
 use Rattle.planner.specs.Lists.{count, signalAt}
 use Rattle.planner.specs.Filled.{unitFrames, framesOfUnit, placesOf}
@@ -105,59 +105,37 @@ unfolding framesOf wordsOf
 frames-of-words [] = refl
 frames-of-words (f ∷ fs) = ap (λ (gs : List UnitFrame). f ∷ gs) (frames-of-words fs)
 
-pub no-odd-word : (fs : List UnitFrame) → oddWord (wordsOf fs) ≡ []
-unfolding oddWord wordsOf
-no-odd-word [] = refl
-no-odd-word (f ∷ fs) = no-odd-word fs
-
-words-length : (fs : List UnitFrame) → length (wordsOf fs) ≡ total (λ f. 2) fs
-unfolding wordsOf total
-words-length [] = refl
-words-length (f ∷ fs) = omega (arith, words-length fs)
-
--- ordering keeps the number of words
-pub ordered-length : (fs : List UnitFrame) → length (wordsOf (ordered fs)) ≡ length (wordsOf fs)
-ordered-length fs = words-length (ordered fs) ∙ ordered-total (λ f. 2) fs ∙ sym (words-length fs)
-
 pub places-length : (s : State) (fs : List UnitFrame) → length (placeWords (run s (exponents fs))) ≡ length (wordsOf fs)
 unfolding placeWords run wordsOf
 places-length s [] = refl
 places-length s (f ∷ fs) = omega (arith, places-length (after s (exponent (f .repetition))) fs)
 
--- a unit's frames are ordered and run: the words of the frames and of the places, and how it ends
+-- frames by rising repetition are run: the words of the frames and of the places, and how it ends
 pub record Run (fs : List UnitFrame) (k : ℕ) (frames places : List ℕ) (r : Filled) : Type 0 where
-  pub answer : r ≡ Slots (last k (exponents (ordered fs)))
-  pub ordered-words : frames ≡ wordsOf (ordered fs)
-  pub placed-words : places ≡ placeWords (run (start k) (exponents (ordered fs)))
+  pub answer : r ≡ Slots (last k (exponents fs))
+  pub frame-words : frames ≡ wordsOf fs
+  pub placed-words : places ≡ placeWords (run (start k) (exponents fs))
 
-pub runs : (fs : List UnitFrame) (k : ℕ) (frames places places′ : List ℕ) (r : Filled) → Seven fs → length (wordsOf fs) ≡ length places
-    → length places ≤ 2 ^ 30 → k ≤ 2 ^ 30 → frames ≡ orderedWords (wordsOf fs) → Ran frames k places r places′ → Run fs k frames places′ r
-runs fs k frames places places′ r seven l few numbered e ran =
+pub runs : (fs : List UnitFrame) (k : ℕ) (frames places places′ : List ℕ) (r : Filled) → Seven fs → Rising 0 (exponents fs) → length frames ≡ length places
+    → length places ≤ 2 ^ 30 → k ≤ 2 ^ 30 → frames ≡ wordsOf fs → Ran frames k places r places′ → Run fs k frames places′ r
+runs fs k frames places places′ r seven rising l few numbered e ran =
     record {
       answer = known .answer ∙ ap (λ (gs : List UnitFrame). Slots (last k (exponents gs))) of;
-      ordered-words = words;
+      frame-words = e;
       placed-words =
           known .written
           ∙ ap (λ (gs : List UnitFrame). placeWords (run (start k) (exponents gs)) ++ drop (length (placeWords (run (start k) (exponents gs)))) places) of
-          ∙ ap (λ (t : List ℕ). front ++ t) (drop-of-length-le places {i = length front} (omega (arith, places-length (start k) (ordered fs), ordered-length fs)))
+          ∙ ap (λ (t : List ℕ). front ++ t) (drop-of-length-le places {i = length front} (omega (arith, places-length (start k) fs, ap length e)))
           ∙ append-nil front;
     }
   where
-    words : frames ≡ wordsOf (ordered fs)
-    words =
-        e
-        ∙ ap₂ (λ (gs : List UnitFrame) (o : List ℕ). wordsOf (ordered gs) ++ o) (frames-of-words fs) (no-odd-word fs)
-        ∙ append-nil (wordsOf (ordered fs))
-
-    of : framesOf frames ≡ ordered fs
-    of = ap framesOf words ∙ frames-of-words (ordered fs)
+    of : framesOf frames ≡ fs
+    of = ap framesOf e ∙ frames-of-words fs
 
     front : List ℕ
-    front = placeWords (run (start k) (exponents (ordered fs)))
+    front = placeWords (run (start k) (exponents fs))
 
     known : RanAs k (exponents (framesOf frames)) places r places′
     known =
-        ran-rising frames k places r places′
-        (record { enough = omega (arith, ap length words, ordered-length fs); few = omega (arith, ap length words, ordered-length fs); numbered = numbered })
-        (subst Seven (sym of) (each-ordered (λ f. Repetition (f .repetition)) fs seven))
-        (subst (λ (gs : List UnitFrame). Rising 0 (exponents gs)) (sym of) (ordered-rising fs seven)) ran
+        ran-rising frames k places r places′ (record { enough = omega arith; few = omega arith; numbered = numbered })
+        (subst Seven (sym of) seven) (subst (λ (gs : List UnitFrame). Rising 0 (exponents gs)) (sym of) rising) ran

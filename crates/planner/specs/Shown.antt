@@ -13,7 +13,7 @@ use Rattle.filling.specs.FrameWords.{framesOf, exponents, Seven}
 use Rattle.filling.specs.Fills.{placeWords}
 use Rattle.filling.specs.Ordered.{ordered, wordsOf}
 use Rattle.filling.specs.Plans.{last}
-use Rattle.filling.specs.Runs.{start, run}
+use Rattle.filling.specs.Runs.{Rising, start, run}
 use Rattle.filling.specs.Tables.{Each}
 use Rattle.planner.specs.Lists.{CountInRange, count, signalAt, EachSignal}
 use Rattle.planner.specs.Filled.{Place, framesOfUnit, placesOf, needed}
@@ -106,9 +106,9 @@ pub record Showable (s : Settings) (list frames places cells results : List ℕ)
   pub placed : length frames ≤ length places
   pub sendable : Each (Sendable s list) (sentIn frames places)
 
--- the frames of a run after k slots, in the order of filling
+-- the frames of a run after k slots
 abbrev pub sentInRun : List UnitFrame → ℕ → List Sent
-sentInRun fs k = sentIn (wordsOf (ordered fs)) (placeWords (run (start k) (exponents (ordered fs))))
+sentInRun fs k = sentIn (wordsOf fs) (placeWords (run (start k) (exponents fs)))
 
 -- frames that can be run after k slots, and then shown
 pub record RunFits (s : Settings) (list frames : List ℕ) (k : ℕ) (places cells results : List ℕ) : Type 0 where
@@ -119,6 +119,7 @@ pub record RunFits (s : Settings) (list frames : List ℕ) (k : ℕ) (places cel
   pub few : length places ≤ 2 ^ 30
   pub numbered : k ≤ 2 ^ 30
   pub seven : Seven (framesOf frames)
+  pub rising : Rising 0 (exponents (framesOf frames))
   pub sendable : Each (Sendable s list) (sentInRun (framesOf frames) k)
 
 -- a unit's frames in the order of filling, and where they are placed after k slots

@@ -11,10 +11,10 @@ use Rattle.terms.specs.declared.Signal.{Signal}
 use Rattle.terms.specs.declared.Answer.{Answer}
 use Rattle.terms.specs.declared.Answer.the-variants.{Done, Setting, Field, Bound, Slots}
 use Rattle.terms.specs.Answers.{numberOf}
-use Rattle.terms.specs.Ranges.{settingRanges}
+use Rattle.terms.specs.Ranges.{settingRanges, LowestOutOfRange}
 use Rattle.terms.specs.RangesLaws.{first-failing-unique}
 use Rattle.planner.specs.Lists.{LowestWithout}
-use Rattle.planner.specs.Asked.{Question, Refused, Passed, questions}
+use Rattle.planner.specs.Asked.{Question, Refused, Passed, signalQuestions, questions}
 use Rattle.planner.specs.Filled.{needed}
 use Rattle.planner.specs.JudgedLaws.{needed-same}
 
@@ -31,12 +31,12 @@ unanswered : (qs : List Question) (a : Answer) → Unanswered qs a → Refused q
 unanswered (q ∷ qs) a u (inl r) = u .0 (r .1)
 unanswered (q ∷ qs) a u (inr r) = unanswered qs a (u .1) (r .1)
 
--- each question has one answer
-abbrev Single : List Question → Type 0
+-- each question has one answer; then so has the list
+abbrev pub Single : List Question → Type 0
 Single [] = Unit {0}
 Single (q ∷ qs) = ((a b : Answer) → q .1 a → q .1 b → a ≡ b) × Single qs
 
-single : (qs : List Question) (a b : Answer) → Single qs → Refused qs a → Refused qs b → a ≡ b
+pub single : (qs : List Question) (a b : Answer) → Single qs → Refused qs a → Refused qs b → a ≡ b
 single (q ∷ qs) a b u (inl p) (inl r) = u .0 a b (p .1) (r .1)
 single (q ∷ qs) a b u (inl p) (inr r) = absurd (p .0 (r .0))
 single (q ∷ qs) a b u (inr p) (inl r) = absurd (r .0 (p .0))
@@ -46,6 +46,21 @@ lowest-unique : (list : List ℕ) (P : Signal → Type 0) (i j : ℕ) → Lowest
 lowest-unique list P i j p q =
     dite (decLt i j) (λ l. absurd (p .fails (q .before i (p .within .0) l))) (λ n.
     dite (decLt j i) (λ l. absurd (q .fails (p .before j (q .within .0) l))) (λ m. omega arith))
+
+-- 6 has one answer
+pub setting-single : (s : Settings) (a b : Answer) → (w : ℕ) × LowestOutOfRange s w × (a ≡ Setting w) → (w : ℕ) × LowestOutOfRange s w × (b ≡ Setting w)
+    → a ≡ b
+setting-single s a b p q = p .2 ∙ ap Setting (first-failing-unique (settingRanges s) (p .0) (q .0) (p .1) (q .1)) ∙ sym (q .2)
+
+-- so have 7, 8 and 9
+pub signals-single : (s : Settings) (list : List ℕ) → Single (signalQuestions s list (needed list))
+signals-single s list = (
+  (λ a b p q. p .2 ∙ ap Field (lowest-unique list _ (p .0) (q .0) (p .1) (q .1)) ∙ sym (q .2)),
+  (
+    (λ a b p q. p .2 ∙ ap Bound (lowest-unique list _ (p .0) (q .0) (p .1) (q .1)) ∙ sym (q .2)),
+    ((λ a b p q. p .2 ∙ ap Slots (needed-same s list (p .0) (q .0) (p .1) (q .1)) ∙ sym (q .2)), tt),
+  ),
+)
 
 module _ (s : Settings) (list : List ℕ) (cells results : ℕ) where
   -- no refusal has number 0
@@ -72,22 +87,5 @@ module _ (s : Settings) (list : List ℕ) (cells results : ℕ) where
   pub refused-unique : (a b : Answer) → Refused (questions s list cells results (needed list)) a
       → Refused (questions s list cells results (needed list)) b → a ≡ b
   refused-unique a b =
-      single (questions s list cells results (needed list)) a b (
-        (λ x y p q. p .2 ∙ ap Setting (first-failing-unique (settingRanges s) (p .0) (q .0) (p .1) (q .1)) ∙ sym (q .2)),
-        (
-          (λ x y p q. p ∙ sym q),
-          (
-            (λ x y p q. p ∙ sym q),
-            (
-              (λ x y p q. p ∙ sym q),
-              (
-                (λ x y p q. p .2 ∙ ap Field (lowest-unique list _ (p .0) (q .0) (p .1) (q .1)) ∙ sym (q .2)),
-                (
-                  (λ x y p q. p .2 ∙ ap Bound (lowest-unique list _ (p .0) (q .0) (p .1) (q .1)) ∙ sym (q .2)),
-                  ((λ x y p q. p .2 ∙ ap Slots (needed-same s list (p .0) (q .0) (p .1) (q .1)) ∙ sym (q .2)), tt),
-                ),
-              ),
-            ),
-          ),
-        ),
-      )
+      single (questions s list cells results (needed list)) a b
+      (setting-single s, ((λ x y p q. p ∙ sym q), ((λ x y p q. p ∙ sym q), ((λ x y p q. p ∙ sym q), signals-single s list))))

@@ -13,12 +13,12 @@ use Rattle.terms.specs.declared.Settings.{Settings}
 use Rattle.terms.specs.declared.Answer.{Answer}
 use Rattle.terms.specs.declared.Answer.the-variants.{Done}
 use Rattle.terms.specs.declared.Frame.{Frame}
-use Rattle.terms.specs.Ranges.{Between, Repetition}
+use Rattle.terms.specs.Ranges.{Between, Repetition, SignalInRange}
 use Rattle.age.specs.Age.{Age, firstStart, spanOf}
 use Rattle.age.specs.AgeLaws.{age-unique}
 use Rattle.cycles.specs.Frames.{Names}
 use Rattle.cycles.specs.FrameLaws.{named-remainder, remainder-named}
-use Rattle.planner.specs.Lists.{count, signalAt}
+use Rattle.planner.specs.Lists.{count, signalAt, EachSignal, Kept, Repetitions}
 use Rattle.planner.specs.Asked.{Passed, questions}
 use Rattle.planner.specs.AskedLaws.{passed-not-refused, refused-unique}
 use Rattle.planner.specs.Filled.{Place, needed, filled, CellsShow, ResultsShow}
@@ -124,57 +124,69 @@ pub record SameOutcome (a b : Answer) (cells cells′ results results′ : List 
   pub table : cells ≡ cells′
   pub shown : results ≡ results′
 
+-- what shows a plan by other repetitions shows one by these: on the list's signals they are the same
+module _ (s : Settings) (list : List ℕ) (R Q : ℕ → ℕ) (h : (j : ℕ) → Between 1 (count list) j → R j ≡ Q j)
+    (own : (p : Place) → List·Memᴰ p (filled list R) → Between 1 (count list) (p .signal)) (entry exit : List ℕ) where
+  cells-by : CellsShow (s .slots) Q (filled list Q) entry exit → CellsShow (s .slots) R (filled list R) entry exit
+  cells-by q =
+      let same = subst (λ (ps : List Place). CellsShow (s .slots) Q ps entry exit) (sym (filled-same list R Q h)) q in
+      record {
+        same-length = same .same-length;
+        holds = λ p c m l n. same .holds p c m l (subst (λ (r : ℕ). Names r (p .base) c) (h (p .signal) (own p m)) n);
+        empty = λ k c b l n. same .empty k c b l (λ p m e x. n p m e (subst (λ (r : ℕ). Names r (p .base) c) (sym (h (p .signal) (own p m))) x));
+        later = same .later;
+      }
+
+  results-by : ResultsShow s list Q (filled list Q) entry exit → ResultsShow s list R (filled list R) entry exit
+  results-by q =
+      let same = subst (λ (ps : List Place). ResultsShow s list Q ps entry exit) (sym (filled-same list R Q h)) q in
+      record {
+        same-length = same .same-length;
+        slot = same .slot;
+        base = same .base;
+        repetition = λ p m. same .repetition p m ∙ sym (h (p .signal) (own p m));
+        age = λ p m.
+            subst
+            (λ (r : ℕ).
+            Age s (signalAt list (p .signal)) (record { slot = p .slot; repetition = r; base = p .base }) (getD exit (4 * (p .signal - 1) + 3) 0))
+            (sym (h (p .signal) (own p m))) (same .age p m);
+        later = same .later;
+      }
+
+-- two plans of one list, each signal in range and its bound kept
+module _ (s : Settings) (list : List ℕ) (ranged : EachSignal list (SignalInRange s)) (kept : EachSignal list (Kept s)) (R Q : ℕ → ℕ)
+    (p : Repetitions s list R) (q : Repetitions s list Q) (entry a b : List ℕ) where
+  same : (i : ℕ) → Between 1 (count list) i → R i ≡ Q i
+  same = repetitions-same s list R Q p q
+
+  seven : (i : ℕ) → Between 1 (count list) i → Repetition (R i)
+  seven = kept-seven s list R kept p
+
+  own : (x : Place) → List·Memᴰ x (filled list R) → Between 1 (count list) (x .signal)
+  own = filled-own list R seven
+
+  cells-same : CellsShow (s .slots) R (filled list R) entry a → CellsShow (s .slots) Q (filled list Q) entry b → a ≡ b
+  cells-same c d =
+      cells-unique (s .slots) R (filled list R) (λ x m. seven (x .signal) (own x m)) entry a b c (cells-by s list R Q same own entry b d)
+
+  pub results-same : ResultsShow s list R (filled list R) entry a → ResultsShow s list Q (filled list Q) entry b → a ≡ b
+  results-same r t =
+      results-unique s list R (filled list R) (λ i l. filled-place list R i l (ranged i l .unit .1)) entry a b r (results-by s list R Q same own entry b t)
+
 module _ (s : Settings) (list cells results : List ℕ) where
-  -- a plan by other repetitions is one by these: on the list's signals they are the same
-  module _ (R Q : ℕ → ℕ) (h : (j : ℕ) → Between 1 (count list) j → R j ≡ Q j) (own : (p : Place) → List·Memᴰ p (filled list R) → Between 1 (count list) (p .signal))
-    where
-      cells-by : (cells′ : List ℕ) → CellsShow (s .slots) Q (filled list Q) cells cells′ → CellsShow (s .slots) R (filled list R) cells cells′
-      cells-by cells′ q =
-          let same = subst (λ (ps : List Place). CellsShow (s .slots) Q ps cells cells′) (sym (filled-same list R Q h)) q in
-          record {
-            same-length = same .same-length;
-            holds = λ p c m l n. same .holds p c m l (subst (λ (r : ℕ). Names r (p .base) c) (h (p .signal) (own p m)) n);
-            empty = λ k c b l n. same .empty k c b l (λ p m e x. n p m e (subst (λ (r : ℕ). Names r (p .base) c) (sym (h (p .signal) (own p m))) x));
-            later = same .later;
-          }
-
-      results-by : (results′ : List ℕ) → ResultsShow s list Q (filled list Q) results results′ → ResultsShow s list R (filled list R) results results′
-      results-by results′ q =
-          let same = subst (λ (ps : List Place). ResultsShow s list Q ps results results′) (sym (filled-same list R Q h)) q in
-          record {
-            same-length = same .same-length;
-            slot = same .slot;
-            base = same .base;
-            repetition = λ p m. same .repetition p m ∙ sym (h (p .signal) (own p m));
-            age = λ p m.
-                subst
-                (λ (r : ℕ).
-                Age s (signalAt list (p .signal)) (record { slot = p .slot; repetition = r; base = p .base }) (getD results′ (4 * (p .signal - 1) + 3) 0))
-                (sym (h (p .signal) (own p m))) (same .age p m);
-            later = same .later;
-          }
-
-  module _ (passed : Passed (questions s list (length cells) (length results) (needed list))) where
-    plans-same : (R Q : ℕ → ℕ) (c d r t : List ℕ) → Plan s list R cells results c r → Plan s list Q cells results d t
-        → SameOutcome (Done (needed list R)) (Done (needed list Q)) c d r t
-    plans-same R Q c d r t p q =
-        record {
-          answer = ap Done (needed-same s list R Q (p .repetitions) (q .repetitions));
-          table = cells-unique (s .slots) R (filled list R) (λ x m. seven (x .signal) (own x m)) cells c d (p .table) (cells-by R Q same own d (q .table));
-          shown = results-unique s list R (filled list R) placed results r t (p .shown) (results-by R Q same own t (q .shown));
-        }
-      where
-        same : (i : ℕ) → Between 1 (count list) i → R i ≡ Q i
-        same = repetitions-same s list R Q (p .repetitions) (q .repetitions)
-
-        seven : (i : ℕ) → Between 1 (count list) i → Repetition (R i)
-        seven = kept-seven s list R (passed .1 .1 .1 .1 .1 .0) (p .repetitions)
-
-        own : (x : Place) → List·Memᴰ x (filled list R) → Between 1 (count list) (x .signal)
-        own = filled-own list R seven
-
-        placed : (i : ℕ) → Between 1 (count list) i → PlacedIn i (filled list R)
-        placed i b = filled-place list R i b (passed .1 .1 .1 .1 .0 i b .unit .1)
+  plans-same :
+      (R Q : ℕ → ℕ) (c d r t : List ℕ) →
+      Passed (questions s list (length cells) (length results) (needed list)) →
+      Plan s list R cells results c r →
+      Plan s list Q cells results d t →
+      SameOutcome (Done (needed list R)) (Done (needed list Q)) c d r t
+  plans-same R Q c d r t k p q =
+      let signals = k .1 .1 .1 .1 in
+      record {
+        answer = ap Done (needed-same s list R Q (p .repetitions) (q .repetitions));
+        table = cells-same s list (signals .0) (signals .1 .0) R Q (p .repetitions) (q .repetitions) cells c d (p .table) (q .table);
+        shown = results-same s list (signals .0) (signals .1 .0) R Q (p .repetitions) (q .repetitions) results r t (p .shown) (q .shown);
+      }
 
   pub planned-unique : {a b : Answer} {c d r t : List ℕ} → Planned s list cells results a c r → Planned s list cells results b d t → SameOutcome a b c d r t
   planned-unique {a} {b} (refused p) (refused q) =
@@ -183,4 +195,4 @@ module _ (s : Settings) (list cells results : List ℕ) where
       absurd (passed-not-refused (questions s list (length cells) (length results) (needed list)) a k p)
   planned-unique {b = b} (done R k p) (refused q) =
       absurd (passed-not-refused (questions s list (length cells) (length results) (needed list)) b k q)
-  planned-unique {c = c} {d = d} {r = r} {t = t} (done R k p) (done Q l q) = plans-same k R Q c d r t p q
+  planned-unique {c = c} {d = d} {r = r} {t = t} (done R k p) (done Q l q) = plans-same R Q c d r t k p q

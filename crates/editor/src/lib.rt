@@ -192,12 +192,12 @@ fn plan_bytes(s: Settings, list: &[u32], results: &mut [u8]) -> Answer
     }
     let mut cells = [0u32; 8192];
     let mut shown = [0u32; 2400];
-    let answer = planner::plan(s, list, &mut cells, &mut shown);
-    if terms::number(answer) != 0 {
-        return answer;
+    let planned = planner::plan(s, list, &mut cells, &mut shown);
+    if terms::number(planned) != 0 {
+        return planned;
     }
     book::put_words(&shown[..words], results);
-    answer
+    planned
 }
 
 fn setting_at(s: Settings, word: u32) -> u32

@@ -5,7 +5,7 @@ use mathlib.Core.Bool.{true}
 use mathlib.Core.List.{List}
 use Prim.Native.Nat.{ℕ, _*_, _≤_}
 use native.Mathlib.Omega.{arith}
-use lib.ListN.{length, take, length-take}
+use lib.ListN.{take, length-take}
 use Rattle.terms.specs.declared.Settings.{Settings}
 use Rattle.terms.specs.declared.Answer.{Answer}
 use Rattle.terms.specs.declared.Answer.the-variants.{Done}
@@ -35,7 +35,7 @@ returns c =
     let test = c .before in
     let r = test .before .before .before in
     let a = r .before .before .before .before .args in
-    let out = read-unsound (omega arith) (r .read .ensures) (λ z. test .if1 .taken (test .before .number .ensures ∙ z)) in
+    let out = read-unsound (omega arith) (r .read .ensures) (λ z. omega (arith, test .before .number .ensures)) in
     record {
       given = r .read .result .answer;
       plan = subst (λ (x : Answer). BookPlanned (a .book .now) (a .results .now) x (a .results .now)) (sym (out .1)) (unread (out .0));
@@ -59,7 +59,7 @@ Begin e = Read e .before .before .before .before
 
 -- the book is sound, and reading is done with its signals
 done-with : (e : tie.Else1) → (sound (Begin e .args .book .now) ≡ true) × (Read e .read .result .answer ≡ Done (signalsOf (Begin e .args .book .now)))
-done-with e = read-sound (omega arith) (Read e .read .ensures) (sym (e .before .number .ensures) ∙ e .if1 .left)
+done-with e = read-sound (omega arith) (Read e .read .ensures) (omega (arith, e .before .number .ensures))
 
 -- what reading gave
 gives :
@@ -86,9 +86,7 @@ plan-bytes-requires c κs =
     let p = c .before .before in
     let e = p .before .before in
     let g = gives e in
-    let l = Read e .read .last .1 .0 in
-    let n : length (take (5 * p .place .result) l) ≡ 5 * p .place .result = simp length-take (omega (arith, counted p, g .0)) in
-    record { whole = omega (arith, n); few = omega (arith, n, counted p, g .0) }
+    record { whole = simp length-take (omega (arith, counted p, g .0)); few = simp length-take (omega (arith, counted p, g .0)) }
 
 packed-requires-2 : tie.Need-packed-requires-2
 packed-requires-2 c κs = search needs

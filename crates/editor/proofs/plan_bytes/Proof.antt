@@ -1,6 +1,6 @@
 -- `editor::plan_bytes` meets its contract: 6 and 10 for the bytes first, then the plan over words, shown as bytes.
 -- Assumes nothing.
-use mathlib.Core.Path.{sym, _∙_, subst}
+use mathlib.Core.Path.{sym, subst}
 use native.Mathlib.Omega.{arith}
 use lib.ListN.{length-take}
 use Rattle.terms.specs.Ranges.{SettingsInRange}
@@ -18,7 +18,7 @@ returns : tie.Need-returns
 returns c =
     let a = c .before .before .before .before .args in
     let w = c .before .setting-out-of-range in
-    bytes-refused-6 (a .s) (a .list .now) (a .results .now) (w .result) (w .ensures) (c .if1 .taken)
+    bytes-refused-6 (a .s) (a .list .now) (a .results .now) (w .result) (w .ensures) (λ z. omega arith)
 
 mul-words : tie.Need-mul-words
 mul-words c = search needs
@@ -39,7 +39,7 @@ Begin e = e .before .before .before .before
 settings : (e : tie.Else1) → SettingsInRange (Begin e .args .s)
 settings e =
     let w = e .before .setting-out-of-range in
-    settings-granted (Begin e .args .s) (w .result) (w .ensures) (e .if1 .left)
+    settings-granted (Begin e .args .s) (w .result) (w .ensures) (omega arith)
 
 returns-2 : tie.Need-returns-2
 returns-2 c =
@@ -65,7 +65,7 @@ returns-3 c =
     let a = Begin (e .before) .args in
     let s = settings (e .before) in
     bytes-refused (a .s) (a .list .now) (a .results .now) s (Begin (e .before) .pre) (omega arith) _ _ (omega arith) (omega arith) (p .plan .result) _ _
-    (p .plan .ensures) (λ z. c .if3 .taken (c .before .number .ensures ∙ z))
+    (p .plan .ensures) (λ z. omega (arith, c .before .number .ensures))
 
 array-share-prefix-shown : tie.Need-array-share-prefix-shown
 array-share-prefix-shown c = search needs
@@ -89,7 +89,7 @@ returns-4 c =
     let s = settings (e .before) in
     subst (BytesPlanned (a .s) (a .list .now) (a .results .now) (p .plan .result)) (sym (w .put-words .ensures))
     (bytes-done (a .s) (a .list .now) (a .results .now) s (Begin (e .before) .pre) (omega arith) _ _ (omega arith) (omega arith) (p .plan .result) _ _
-    (p .plan .ensures) (sym (third .before .number .ensures) ∙ third .if3 .left))
+    (p .plan .ensures) (omega (arith, third .before .number .ensures)))
 
 pub plan-bytes-spec : {M : Type 1} → statement M
 plan-bytes-spec =

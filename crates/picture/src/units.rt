@@ -2,8 +2,8 @@
 ghost use Prim.Native.Nat.{_≤_};
 use crate::text::word;
 
-// Sixteen colours that are told apart beside each other and upon white, a dark and a light one by turns. A unit takes
-// that of its rank among the units with a signal, so that units side by side differ, whatever their numbers are.
+// Sixteen colours that are told apart beside each other and upon white. A unit takes that of its rank among the units
+// with a signal, so that units side by side differ, whatever their numbers are.
 const COLOURS: [u32; 16] = [
     0x4e79a7,
     0xf28e2b,

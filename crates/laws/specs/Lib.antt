@@ -12,3 +12,4 @@ pub mod AlongLaws
 pub mod Divisor
 pub mod DivisorLaws
 pub mod RemainderLaws
+pub mod LentLaws

@@ -29,7 +29,7 @@ long write(int file, const void *from, size bytes);
 void _exit(int status);
 
 enum { PUT = 1, GET = 2, CALL = 3, SEND = 4 };
-enum { AGE, REPETITION, READ, SETTING, WRITE, PART, PLAN_LIST, PLAN, HAS };
+enum { AGE, REPETITION, READ, SETTING, WRITE, PART, PLAN_LIST, PLAN, HAS, DEEPEST };
 enum { DONE = 0, BAD_COMMAND = 3, MISSING = 4, ARENA = 1 << 20 };
 
 static u8 arena[ARENA] __attribute__((aligned(64)));
@@ -100,6 +100,26 @@ static u64 has(u32 function) {
     return 0;
 }
 
+// Twice the stack that planning may take, so that more than that is seen.
+enum { PAINTED = 2 * 131072 };
+static u64 deepest;
+
+// Plans a book, with the stack below painted; the lowest word that is no longer paint was the deepest one written.
+// The paint changes from call to call, so that no word can be taken for it for ever.
+__attribute__((noinline)) static u64 plan_on_paint(const u8 *book, size book_bytes, u8 *results, size result_bytes) {
+    static u64 paint = 0xA5A5A5A5A5A5A5A5;
+    volatile u64 *top;
+    __asm__ volatile("mov %%rsp, %0" : "=r"(top));
+    volatile u64 *low = top - PAINTED / 8;
+    paint = ~paint;
+    for (volatile u64 *at = top; at > low;) *--at = paint;
+    u64 answer = noctelvia_plan(book, book_bytes, results, result_bytes);
+    while (low < top && *low == paint) low++;
+    u64 taken = 8 * (u64)(top - low);
+    if (taken > deepest) deepest = taken;
+    return answer;
+}
+
 static u64 call(u32 function, const u32 a[13]) {
     switch (function) {
     case AGE:
@@ -124,7 +144,9 @@ static u64 call(u32 function, const u32 a[13]) {
                                    (u32 *)(arena + a[7]), a[8], (u32 *)(arena + a[9]), a[10]);
     case PLAN:
         must_have(noctelvia_plan != 0, "noctelvia_plan");
-        return noctelvia_plan(arena + a[0], a[1], arena + a[2], a[3]);
+        return plan_on_paint(arena + a[0], a[1], arena + a[2], a[3]);
+    case DEEPEST:
+        return deepest;
     case HAS:
         return has(a[0]);
     }

@@ -7,6 +7,7 @@ pub mod cases;
 pub mod damage;
 pub mod draw;
 pub mod examples;
+pub mod guards;
 pub mod kit;
 pub mod library;
 pub mod lists;

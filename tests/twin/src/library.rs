@@ -1,6 +1,7 @@
 // The library as the twin sees it: its C functions, called in a process of their own, in guarded room.
 // That process is caller.c with the static library, both x86-64; elsewhere the kit's emulator runs it.
 
+use crate::guards::{guarded, opened, BESIDE_BYTES, BESIDE_WORDS};
 use crate::kit;
 use crate::terms::Settings;
 use std::io::{BufReader, BufWriter, Read, Result, Write};
@@ -24,32 +25,13 @@ enum Function {
     PlanList,
     Plan,
     Has,
+    Deepest,
 }
 
 /// Where in the caller's memory an input is laid, and where lent room is.
 const INPUT: usize = 0;
 const ROOM: usize = 1 << 19;
 const SECOND_ROOM: usize = 3 << 18;
-
-/// What guards hold, and how many bytes of them stand on each side.
-const GUARD: u8 = 0xA5;
-const BESIDE_WORDS: usize = 256;
-/// Odd, so that bytes are lent where no word may be taken to start.
-const BESIDE_BYTES: usize = 515;
-
-fn guarded(inside: &[u8], beside: usize) -> Vec<u8> {
-    let mut whole = vec![GUARD; beside];
-    whole.extend_from_slice(inside);
-    whole.resize(whole.len() + beside, GUARD);
-    whole
-}
-
-/// What lies between the guards, and whether they stand.
-fn opened(whole: &[u8], beside: usize) -> (&[u8], bool) {
-    let (front, rest) = whole.split_at(beside);
-    let (inside, back) = rest.split_at(rest.len() - beside);
-    (inside, front.iter().chain(back).all(|&byte| byte == GUARD))
-}
 
 pub fn words_of(bytes: &[u8]) -> Vec<u32> {
     bytes.chunks_exact(4).map(|b| u32::from_le_bytes([b[0], b[1], b[2], b[3]])).collect()
@@ -248,6 +230,13 @@ impl Library {
         let arguments = [at, book.len() as u32, room_at, results.len() as u32];
         self.left_by(Function::Plan, &arguments, &input, &lent)
     }
+
+    /// The most bytes of stack that any call of `plan` has taken so far.
+    pub fn deepest(&mut self) -> Result<u64> {
+        self.call(Function::Deepest, &[])?;
+        self.send()?;
+        self.answer()
+    }
 }
 
 /// The setting words and the signals that a book is asked for.
@@ -269,28 +258,5 @@ impl Drop for Library {
     fn drop(&mut self) {
         let _ = self.process.kill();
         let _ = self.process.wait();
-    }
-}
-
-#[cfg(test)]
-mod tests {
-    use super::*;
-
-    #[test]
-    fn a_write_on_either_side_of_the_room_is_seen() {
-        let whole = guarded(&[1, 2, 3], BESIDE_BYTES);
-        assert_eq!(opened(&whole, BESIDE_BYTES), (&[1, 2, 3][..], true));
-        for at in [0, BESIDE_BYTES - 1, BESIDE_BYTES + 3, whole.len() - 1] {
-            let mut written = whole.clone();
-            written[at] = 0;
-            assert_eq!(opened(&written, BESIDE_BYTES), (&[1, 2, 3][..], false));
-        }
-    }
-
-    #[test]
-    fn a_write_within_the_room_leaves_the_guards() {
-        let mut whole = guarded(&bytes_of(&[1, 2]), BESIDE_WORDS);
-        whole[BESIDE_WORDS + 4] = 7;
-        assert_eq!(opened(&whole, BESIDE_WORDS), (&[1, 0, 0, 0, 7, 0, 0, 0][..], true));
     }
 }

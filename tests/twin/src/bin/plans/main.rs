@@ -19,15 +19,26 @@ use twin::random::Random;
 use twin::terms::Settings;
 
 const COUNT: u64 = 1_500;
+/// The stack of `noctelvia_plan` stays below this many bytes.
+const STACK: u64 = 128 * 1_024;
 
 fn all(library: Library, seed: u64, count: u64, with_books: bool) -> ExitCode {
     println!("plans: seed {seed}, count {count}{}", if with_books { "" } else { ", lists alone" });
     let mut run = Run::new(library, seed, with_books);
     tour::all(&mut run, count);
     let whole = run.reached.report();
+    let shallow = !with_books || stays_below(&mut run.library, STACK);
     let Run { lists, books, walked, searched, differ, .. } = run;
     println!("plans: {lists} lists, {books} books, {walked} ages walked, {searched} lists searched, {differ} differ");
-    if differ == 0 && whole { ExitCode::SUCCESS } else { ExitCode::FAILURE }
+    if differ == 0 && whole && shallow { ExitCode::SUCCESS } else { ExitCode::FAILURE }
+}
+
+/// Whether planning the books took stack, and less than the limit.
+fn stays_below(library: &mut Library, limit: u64) -> bool {
+    let deepest = library.deepest().unwrap_or(u64::MAX);
+    let below = (1..limit).contains(&deepest);
+    println!("  {}: {deepest} bytes of {limit}", if below { "stack" } else { "STACK NOT BELOW ITS LIMIT" });
+    below
 }
 
 /// Prints what the twin answers and what differs from it; whether nothing does.

@@ -1,8 +1,8 @@
-// Links caller.c with the static library by the tools of the Rattle kit, and starts the result.
+// Links caller.c with the static library by the tools of the Rattle kit, and starts programs of the kit.
 // The kit compiles for x86-64 on every machine; where that is not the processor, it has an emulator.
 
 use std::env;
-use std::ffi::OsStr;
+use std::ffi::{OsStr, OsString};
 use std::fs;
 use std::io::{Error, Result};
 use std::path::{Path, PathBuf};
@@ -90,18 +90,34 @@ impl Drop for Folder {
 pub fn caller(folder: &Folder) -> Result<Child> {
     let own = kit_folder()?;
     let program = link(&own, &folder.path)?;
-    start(&own, &program)
+    command(&words_to_start(&own, &program)).stderr(Stdio::inherit()).spawn()
 }
 
-/// Starts the program under the kit's own loader and C library, as rt does.
-fn start(own: &Path, program: &Path) -> Result<Child> {
+/// The words that start the planning program as rt made it, proved.
+pub fn shipped_program() -> Result<Vec<OsString>> {
+    let program = Path::new(env!("CARGO_MANIFEST_DIR")).join("../../target/bin/noctelvia");
+    if !program.is_file() {
+        return Err(Error::other(format!("{} is missing: rt check noctelvia makes it", program.display())));
+    }
+    Ok(words_to_start(&kit_folder()?, &program))
+}
+
+/// The words that start a program of the kit under the kit's own loader and C library, as rt does.
+fn words_to_start(own: &Path, program: &Path) -> Vec<OsString> {
     let (lib, emulator) = (own.join("toolchain/lib"), own.join("toolchain/bin/qemu-x86_64"));
     let loader = lib.join("ld-linux-x86-64.so.2");
-    let mut words: Vec<&OsStr> = Vec::new();
+    let mut words: Vec<OsString> = Vec::new();
     if emulator.is_file() {
-        words.push(emulator.as_os_str());
+        words.push(emulator.into());
     }
-    words.extend([loader.as_os_str(), OsStr::new("--library-path"), lib.as_os_str(), program.as_os_str()]);
-    let mut command = Command::new(words[0]);
-    command.args(&words[1..]).env_clear().stdin(Stdio::piped()).stdout(Stdio::piped()).spawn()
+    words.extend([loader.into(), "--library-path".into(), lib.into(), program.into()]);
+    words
+}
+
+/// A command of the given words, its input and outputs in our hands and nothing from around it.
+pub fn command(words: &[OsString]) -> Command {
+    let mut command = Command::new(&words[0]);
+    command.args(&words[1..]).env_clear();
+    command.stdin(Stdio::piped()).stdout(Stdio::piped()).stderr(Stdio::piped());
+    command
 }

@@ -47,22 +47,6 @@ pub fn plan_book(bytes: &[u8], result_bytes: usize) -> (Answer, Vec<u8>) {
     (answer, bytes_of(&results))
 }
 
-/// What the planning program writes, line by line, for a list and the plan of it.
-pub fn lines(settings: &Settings, list: &[u32], planning: &Planning) -> Vec<String> {
-    let Answer { number, place } = planning.answer;
-    if number != 0 {
-        return vec![format!("REFUSED {number} {place}")];
-    }
-    let signals = signals_of(list);
-    let line = |(index, (signal, result)): (usize, (&Signal, &[u32]))| {
-        let words = result.iter().map(u32::to_string).collect::<Vec<String>>().join(" ");
-        format!("{} {} {words}", index + 1, signal.unit)
-    };
-    let first = format!("PLAN {} {place} {}", signals.len(), settings.slots);
-    let results = planning.results.chunks(RESULT_WORDS);
-    [first].into_iter().chain(signals.iter().zip(results).enumerate().map(line)).collect()
-}
-
 /// Refusals 6, 4, 10 and 7; the signals of a list that none of them refuses.
 fn judged(settings: &Settings, list: &[u32], cells_words: usize, results_words: usize) -> Result<Vec<Signal>, Answer> {
     let refused = |number, place| Err(Answer::new(number, place));
@@ -154,7 +138,7 @@ fn place(row: &mut [u32], frame: Frame, signal: usize) -> Result<(), Answer> {
 mod tests {
     use super::*;
     use crate::examples::{examples, Example};
-    use crate::lists::{self, List};
+    use crate::lists;
     use crate::random::Random;
     use crate::search::{search, Loose};
     use crate::table;
@@ -173,18 +157,6 @@ mod tests {
                 assert_eq!(given.results.len(), 4 * list.signals.len(), "{name}");
             }
         }
-    }
-
-    #[test]
-    fn the_whole_example_is_written_as_01_prints_it() {
-        let find = |name| examples().into_iter().find(|example| example.name == name).expect("it is listed").list;
-        let written = |list: List| {
-            let (settings, words) = (list.settings, list.words());
-            lines(&settings, &words, &plan(&settings, &words, 8_192, 2_400))
-        };
-        let whole = ["PLAN 3 2 93", "1 3 2 1 4 532", "2 3 2 0 2 3032", "3 1 1 0 1 516"];
-        assert_eq!(written(find("the whole example")), whole);
-        assert_eq!(written(find("case 11, 31 slots")), ["REFUSED 9 32"]);
     }
 
     #[test]

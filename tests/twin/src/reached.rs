@@ -1,13 +1,28 @@
 // Counts of what a run reached, each kind named beforehand.
-// A kind that was never reached fails the run: a test that cannot fail is none.
+// A kind that was not reached fails the run: a test that cannot fail is none.
 
+#[derive(Clone)]
 pub struct Reached {
     kinds: Vec<(String, u64)>,
+    /// How often each kind has to come.
+    least: u64,
 }
 
 impl Reached {
     pub fn expecting<S: ToString>(names: impl IntoIterator<Item = S>) -> Reached {
-        Reached { kinds: names.into_iter().map(|name| (name.to_string(), 0)).collect() }
+        Reached { kinds: names.into_iter().map(|name| (name.to_string(), 0)).collect(), least: 1 }
+    }
+
+    /// The same kinds, each to be reached so many times.
+    pub fn at_least(self, least: u64) -> Reached {
+        Reached { least, ..self }
+    }
+
+    /// Adds what another run over the same kinds reached.
+    pub fn add(&mut self, other: &Reached) {
+        for ((_, times), (_, more)) in self.kinds.iter_mut().zip(&other.kinds) {
+            *times += more;
+        }
     }
 
     /// Adds one to a kind that was named; a kind that was not is a slip in the program.
@@ -28,14 +43,14 @@ impl Reached {
             println!("  {kind}: {times}");
         }
         for kind in self.missing() {
-            println!("NEVER REACHED {kind}");
+            println!("NOT REACHED {} times: {kind}", self.least);
         }
         self.missing().is_empty()
     }
 
-    /// The kinds that were never reached.
+    /// The kinds that were not reached often enough.
     pub fn missing(&self) -> Vec<&str> {
-        self.kinds.iter().filter(|(_, times)| *times == 0).map(|(kind, _)| kind.as_str()).collect()
+        self.kinds.iter().filter(|(_, times)| *times < self.least).map(|(kind, _)| kind.as_str()).collect()
     }
 }
 
@@ -48,5 +63,13 @@ mod tests {
         let mut reached = Reached::expecting(["one", "two"]);
         reached.count("one");
         assert_eq!((reached.times("one"), reached.missing()), (1, vec!["two"]));
+    }
+
+    #[test]
+    fn what_was_reached_too_seldom_is_missing() {
+        let mut reached = Reached::expecting(["one", "two"]).at_least(2);
+        reached.count("one");
+        reached.add(&reached.clone());
+        assert_eq!((reached.times("one"), reached.missing()), (2, vec!["two"]));
     }
 }

@@ -4,6 +4,7 @@
 use crate::run::Run;
 use twin::book::{self, judged, seal, set_word, BLOCK_BYTES};
 use twin::damage;
+use twin::drawn;
 use twin::lists::{self, List};
 use twin::plan::plan_book;
 use twin::terms::Answer;
@@ -14,7 +15,7 @@ pub fn all(run: &mut Run, count: u64) {
         one_harm(run);
     }
     lengths(run);
-    harmed(run, count);
+    drawn_by_number(run, 20 * count);
 }
 
 /// A book that is planned, with the signals it has.
@@ -82,16 +83,12 @@ fn lengths(run: &mut Run) {
     }
 }
 
-/// Books with one to three harms, sealed again or not, in results long enough, too short and just right.
-fn harmed(run: &mut Run, count: u64) {
-    for round in 0..count {
-        let list = if round % 4 == 0 { lists::middling(&mut run.random) } else { lists::small(&mut run.random) };
-        let mut book = book::write(&list.settings.words(), &list.words(), usize::MAX).1;
-        for _ in 0..run.random.between(1, 3) {
-            damage::harm(&mut run.random, &mut book);
-        }
+/// The books that the planning program gets too, in results long enough, too short and just right.
+fn drawn_by_number(run: &mut Run, count: u64) {
+    for index in 0..count {
+        let book = drawn::book(run.seed, index);
         let exact = 16 * judged(&book).unwrap_or(0);
-        let bytes = match run.random.below(4) {
+        let bytes = match run.random.below(8) {
             0 => run.random.index(exact + 1),
             1 => exact,
             _ => exact + run.random.index(100),

@@ -20,6 +20,7 @@ const PATIENCE: u64 = 200_000;
 
 pub struct Run {
     pub library: Library,
+    pub seed: u64,
     pub random: Random,
     pub reached: Reached,
     /// Whether each list is planned as a book too.
@@ -46,7 +47,7 @@ fn kept(settings: &Settings, words: &[u32], cells: usize, results: usize) -> (Ve
 impl Run {
     pub fn new(library: Library, seed: u64, with_books: bool) -> Run {
         let (random, reached) = (Random::new(seed), Reached::expecting(kinds(with_books)));
-        Run { library, random, reached, with_books, lists: 0, books: 0, walked: 0, searched: 0, differ: 0 }
+        Run { library, seed, random, reached, with_books, lists: 0, books: 0, walked: 0, searched: 0, differ: 0 }
     }
 
     /// Counts differences; the first ten are printed and kept.

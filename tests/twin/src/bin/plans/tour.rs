@@ -5,10 +5,11 @@ use crate::run::{needed, Run};
 use crate::{books, faults};
 use twin::book;
 use twin::draw;
+use twin::drawn;
 use twin::examples::{examples, Example};
 use twin::lists::{self, List};
 use twin::plan::plan;
-use twin::terms::{Answer, Question, Settings, MOST_SIGNALS};
+use twin::terms::{Answer, Settings, MOST_SIGNALS};
 
 /// The most slots there can be, with the times of 01's examples.
 const WIDE: Settings = Settings { cycle_length: 2_500, slot_length: 16, slots: 128, packing: 100, payload: 8 };
@@ -140,17 +141,13 @@ fn drawn(run: &mut Run, count: u64) {
                 let list = lists::tight(&mut run.random);
                 run.plan_and_search(&list);
             }
-            8 => single(run),
+            8 => {
+                let list = drawn::single(&mut run.random);
+                run.plan_and_search(&list);
+            }
             _ => wild(run),
         }
     }
-}
-
-/// One signal at the ends of the ranges, its bound about a worst age.
-fn single(run: &mut Run) {
-    let Question { settings, mut signal, .. } = draw::extreme(&mut run.random);
-    draw::bound_near_worst(&mut run.random, &settings, &mut signal);
-    run.plan_and_search(&List { settings, signals: vec![signal] });
 }
 
 /// Words of any value, as settings or as signals, in rooms of any length.

@@ -26,8 +26,8 @@ struct list repeated(struct list list, size_t times) {
 /* Writes the book of a list, and gives back its length in bytes. */
 size_t write_book(const struct list *list, uint8_t *book, size_t room_bytes) {
     const uint32_t *s = list->settings;
-    uint64_t answer = noctelvia_write(s[CYCLE_LENGTH], s[SLOT_LENGTH], s[SLOTS], s[PACKING_TIME], s[PAYLOAD], list->words,
-                                      SIGNAL_WORDS * list->signals, book, room_bytes);
+    uint64_t answer = noctelvia_write(s[CYCLE_LENGTH], s[SLOT_LENGTH], s[SLOTS], s[PACKING_TIME], s[PAYLOAD],
+                                      list->words, SIGNAL_WORDS * list->signals, book, room_bytes);
     size_t blocks = 1 + (list->signals + FULL_BLOCK - 1) / FULL_BLOCK;
     EXPECT_ANSWER(answer, NOCTELVIA_DONE, (uint32_t)blocks);
     return BLOCK_BYTES * blocks;

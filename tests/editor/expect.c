@@ -19,7 +19,8 @@ void expect_same(const char *file, int line, const char *what, uint64_t is, uint
 
 void expect_answer(const char *file, int line, const char *what, uint64_t is, uint32_t number, uint32_t place) {
     if (NOCTELVIA_NUMBER(is) == number && NOCTELVIA_PLACE(is) == place) return;
-    fprintf(stderr, "%s:%d: %s answers number %" PRIu32 ", place %" PRIu32 ", not number %" PRIu32 ", place %" PRIu32 "\n",
-            file, line, what, NOCTELVIA_NUMBER(is), NOCTELVIA_PLACE(is), number, place);
+    fprintf(stderr, "%s:%d: %s answers number %" PRIu32 ", place %" PRIu32, file, line, what, NOCTELVIA_NUMBER(is),
+            NOCTELVIA_PLACE(is));
+    fprintf(stderr, ", not number %" PRIu32 ", place %" PRIu32 "\n", number, place);
     exit(1);
 }

@@ -99,7 +99,8 @@ void plan_the_largest(void) {
 static void read_settings_and_list(const struct list *list, const uint8_t *book, size_t bytes) {
     size_t words = SIGNAL_WORDS * list->signals;
     struct room room = new_room(4 * (words + BEHIND));
-    EXPECT_ANSWER(noctelvia_read(book, bytes, words_in(room), room.length / 4), NOCTELVIA_DONE, (uint32_t)list->signals);
+    uint64_t answer = noctelvia_read(book, bytes, words_in(room), room.length / 4);
+    EXPECT_ANSWER(answer, NOCTELVIA_DONE, (uint32_t)list->signals);
     EXPECT(untouched_from(room, 4 * words));
     EXPECT(memcmp(words_in(room), list->words, 4 * words) == 0);
     end_room(room);
@@ -125,7 +126,7 @@ void read_back(void) {
     static const size_t times[] = {0, 1, 8, 9, 200};
     for (size_t i = 0; i < sizeof times / sizeof *times; i++) {
         struct list list = repeated(example(), times[i]);
-        for (size_t w = 0; w < SIGNAL_WORDS * list.signals; w++) list.words[w] += (uint32_t)(w << 20); /* all different */
+        for (size_t w = 0; w < SIGNAL_WORDS * list.signals; w++) list.words[w] += (uint32_t)w << 20; /* each its own */
         struct room book = new_room(MOST_BOOK);
         size_t bytes = write_book(&list, book.bytes, book.length);
         EXPECT(untouched_from(book, bytes));

@@ -6,7 +6,8 @@ static uint32_t repetition(uint32_t slots, uint32_t packing, uint32_t period, ui
     return noctelvia_repetition(2500, 16, slots, packing, 8, 1, period, offset, 16, bound);
 }
 
-static uint32_t age(uint32_t packing, uint32_t period, uint32_t offset, uint32_t slot, uint32_t repetition, uint32_t base) {
+static uint32_t age(uint32_t packing, uint32_t period, uint32_t offset, /* the frame: */
+                    uint32_t slot, uint32_t repetition, uint32_t base) {
     return noctelvia_age(2500, 16, 93, packing, 8, 1, period, offset, 16, period, slot, repetition, base);
 }
 

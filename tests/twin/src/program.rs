@@ -68,9 +68,8 @@ mod tests {
         let wrong = |said: &str, number, place| wrong_sentence(said, Answer::new(number, place)).is_some();
         assert!(!wrong("", 0, 2) && wrong("Done.\n", 0, 2));
         assert!(!wrong("Signal 12 is out of range.\n", 7, 12) && !wrong("The book is empty.\n", 1, 0));
-        for said in ["", "Signal 12.", "Signal 12\n", "signal 12.\n", "Signal 12. Mend it.\n", "Signal 12.\nMend it.\n"] {
-            assert!(wrong(said, 7, 12), "{said:?}");
-        }
+        let forms = ["", "Signal 12.", "Signal 12\n", "signal 12.\n", "Signal 12. Mend it.\n", "Signal 12.\nMend it.\n"];
+        assert!(forms.iter().all(|said| wrong(said, 7, 12)));
         assert!(wrong("Signal 120 is out of range.\n", 7, 12));
     }
 }

@@ -52,7 +52,8 @@ fn wrong_output(output: &str, wanted: &str) -> Option<String> {
 impl<'a> Run<'a> {
     /// Of so many drawn books each number is to come to one in five hundred.
     pub fn new(words: &'a [OsString], count: u64) -> Run<'a> {
-        let numbers = Reached::expecting((0..10).map(|number| format!("gives {number}"))).at_least((count / 500).max(1));
+        let names = (0..10).map(|number| format!("gives {number}"));
+        let numbers = Reached::expecting(names).at_least((count / 500).max(1));
         Run { words, numbers, kinds: Reached::expecting(KINDS), books: 0, differ: 0, found: Vec::new() }
     }
 

@@ -65,3 +65,8 @@ pub take-unique : (s : Slot) (R base : ℕ) (a b : Slot) → a .free < 2 ^ 64 �
 take-unique s R base a b ha hb p q =
     same-slot a b (p .unit ∙ sym (q .unit))
     (mask-unique (λ c. Free s c × (Names R base c → ⊥)) (a .free) (b .free) ha hb (p .free) (q .free))
+
+-- the slot lent, at exit
+pub clear-unique : (s : Slot) (R base : ℕ) (a b : Slot) → a .free < 2 ^ 64 → b .free < 2 ^ 64
+    → Taken s R base a → Taken s R base b → a ≡ b
+clear-unique = take-unique

@@ -13,7 +13,6 @@ use Rattle.terms.specs.Ranges.{Between, Repetition}
 use Rattle.filling.specs.declared.UnitFrame.{UnitFrame}
 use Rattle.filling.specs.declared.Filled.{Filled}
 use Rattle.filling.specs.declared.Filled.the-variants.{Slots}
-use Rattle.filling.specs.Sums.{total}
 use Rattle.filling.specs.Tables.{Each, Valid}
 use Rattle.filling.specs.Tables.Each.{empty, entry}
 use Rattle.filling.specs.TableLaws.{each-map, each-both}
@@ -24,7 +23,7 @@ use Rattle.filling.specs.FrameWords.{framesOf, exponent, exponents, Seven}
 use Rattle.filling.specs.Fills.{Ran, RanAs, placeWords}
 use Rattle.filling.specs.FillLaws.{repetition-power, ran-rising}
 use Rattle.filling.specs.Ordered.{ordered, wordsOf}
-use Rattle.filling.specs.OrderedLaws.{ordered-total, each-ordered, ordered-rising}
+use Rattle.filling.specs.OrderedLaws.{each-ordered}
 use Rattle.planner.specs.Lists.{count, signalAt}
 use Rattle.planner.specs.Filled.{unitFrames, framesOfUnit, placesOf}
 use Rattle.planner.specs.Shown.{Sent, sent, sentOf, sentIn, Sendable}

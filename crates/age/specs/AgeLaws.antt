@@ -3,10 +3,10 @@
 use mathlib.Core.Path.{_≡_, refl, _∙_, sym, ap, subst}
 use mathlib.Core.Logic.{dite}
 use Prim.Native.Nat.{ℕ, zero, suc, _+_, _*_, _-_, _/_, _%_, _≤_, _<_}
-use native.Mathlib.Nat.{mul-assoc, mul-le-mul-right, lt-of-not-le, mod-eq-of-lt, add-mod-mod}
+use native.Mathlib.Nat.{mul-le-mul-right, lt-of-not-le, mod-eq-of-lt, add-mod-mod}
 use native.Mathlib.Decide.{decLe}
 use native.Mathlib.Omega.{arith}
-use Rattle.laws.specs.Divisor.{Divides, IsGcd}
+use Rattle.laws.specs.Divisor.{IsGcd}
 use Rattle.laws.specs.DivisorLaws.{Ahead, bezout, gcd-swap, gcd-exists, divisor-positive, divisor-at-most}
 use Rattle.laws.specs.RemainderLaws.{Congruent, congruent-of, same-remainder, rounded-up}
 use Rattle.age.specs.Age.{Start, Release, Carries, ValueAge, IsAge}

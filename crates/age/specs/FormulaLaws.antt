@@ -1,5 +1,5 @@
 -- Laws of the formula: how a longest wait is recognised, that equations 6 and 7 give it, and that both are unique.
-use mathlib.Core.Path.{_≡_, _∙_, sym, ap, subst}
+use mathlib.Core.Path.{_≡_, _∙_, ap, subst}
 use Prim.Native.Nat.{ℕ, zero, suc, _+_, _*_, _-_, _/_, _%_, _≤_, _<_}
 use native.Mathlib.Nat.{add-mod-mod, mod-add-div', mod-lt, mul-le-mul-right, lt-of-mul-lt-mul-right, add-mod-right, lt-of-not-le}
 use native.Mathlib.Decide.{decLe}

@@ -6,7 +6,6 @@ use Rattle.terms.specs.RepetitionLaws.{repetition-most}
 use Rattle.terms.specs.declared.Settings.{Settings}
 use Rattle.terms.specs.declared.Signal.{Signal}
 use Rattle.terms.specs.declared.Frame.{Frame}
-use Rattle.terms.specs.Ranges.{FrameInRange}
 use Rattle.age.specs.Age.{firstStart, spanOf}
 use Rattle.age.specs.Given.{InRange}
 use Rattle.age.specs.Bounds.{Bounded}

@@ -1,9 +1,8 @@
 -- What the time between starts does to ages: a frame that starts more often is never later; an age within the period
 -- keeps the span within the period (the paper's equation 2), and then no value is overwritten unsent.
-use mathlib.Core.Path.{_≡_, refl, sym, ap}
 use mathlib.Core.Logic.{dite}
 use Prim.Native.Nat.{ℕ, _+_, _*_, _-_, _≤_, _<_}
-use native.Mathlib.Nat.{mul-assoc, mul-le-mul-right, lt-of-not-le, lt-of-mul-lt-mul-right}
+use native.Mathlib.Nat.{mul-le-mul-right, lt-of-not-le, lt-of-mul-lt-mul-right}
 use native.Mathlib.Decide.{decLe}
 use native.Mathlib.Omega.{arith}
 use Rattle.laws.specs.Divisor.{Divides}

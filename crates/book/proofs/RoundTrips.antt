@@ -16,10 +16,8 @@ use Rattle.terms.specs.Answers.{numberOf, placeOf}
 use Rattle.book.specs.declared.Reading.{Reading}
 use Rattle.book.specs.Words.{AllBelow}
 use Rattle.book.specs.Blocks.{AreWords, blocksFor, bookOf, unless, writeAnswer, roomAfter}
-use Rattle.book.specs.Reading.{blocksIn, signalsOf, judged, sound, readAnswer, settingsIn, listWord, listIn, settingsGiven, listAfter}
+use Rattle.book.specs.Reading.{blocksIn, signalsOf, judged, sound, readAnswer, settingsIn, listIn, settingsGiven, listAfter}
 use Rattle.book.specs.Outcomes.{ReadOutcome, WriteOutcome}
-use Rattle.book.proofs.RunLaws.{upTo-below}
-use Rattle.book.proofs.WordLaws.{word-fits}
 use Rattle.book.proofs.SoundLaws.{unless-passed, sound-facts, sound-count, facts-sound}
 use Rattle.book.proofs.AnswerLaws.{read-done, read-given, write-done, write-filled}
 use Rattle.book.proofs.WrittenLaws.{written-length, written-count, written-sound, written-back, written-list}
@@ -163,17 +161,3 @@ not-all-refused {s} settings read =
     let count : signalsOf (bookOf s []) ≡ 0 = written-count s [] settings none refl (omega arith) in
     let fits : 5 * signalsOf (bookOf s []) ≤ 0 = omega arith in
     read .answer ∙ sym (read-done (bookOf s []) [] good fits) ∙ ap Done count
-
--- what reading gives are words
-pub read-are-words : (b : List ℕ) → AllBelow 256 b → AreWords (settingsIn b) × AllBelow (2 ^ 32) (listIn b)
-unfolding settingsIn listIn listWord
-read-are-words b bytes = (
-  record {
-    cycle = word-fits b bytes 2;
-    slot = word-fits b bytes 3;
-    slots = word-fits b bytes 4;
-    packing = word-fits b bytes 5;
-    payload = word-fits b bytes 6;
-  },
-  upTo-below (listWord b) (5 * signalsOf b) (2 ^ 32) (omega arith) (λ i. word-fits b bytes _),
-)

@@ -9,12 +9,12 @@ use native.Mathlib.Nat.{not-suc-le-zero, eq-or-lt-of-le}
 use native.Mathlib.Numerals.{add-one}
 use native.Mathlib.Decide.{decLt}
 use native.Mathlib.Omega.{arith}
-use lib.ListN.{length, getD, drop, set, length-append, List·getD-append, List·getD-eq-default}
+use lib.ListN.{length, getD, drop, set, length-append, List·getD-append}
 use lib.Seq.{drop-cons, set-at, getD-at, append-snoc, ext-getD}
 use lib.Dec.{eqb}
 use borrow.Author.Count.{below-more}
 use borrow.Author.Tests.{eq-eqb, ne-eqb}
-use Rattle.book.specs.Words.{AllBelow, upTo, sumUpTo, firstFrom, firstFailing}
+use Rattle.book.specs.Words.{upTo, sumUpTo, firstFrom, firstFailing}
 
 pub below-or-past : (i n : ℕ) → (i < n) ⊎ (n ≤ i)
 below-or-past i n = elim (decLt i n) [ yes h ↦ inl h | no h ↦ inr (omega arith) ]
@@ -39,14 +39,6 @@ pub upTo-is : (f : ℕ → ℕ) (n : ℕ) (l : List ℕ) → length l ≡ n → 
 upTo-is f n l e same =
     ext-getD 0 l (upTo f n) (e ∙ sym (upTo-length f n))
     (λ i h. let k : i < n = subst (λ (m : ℕ). i < m) e h in same i k ∙ sym (upTo-at f n i k))
-
-pub upTo-below : (f : ℕ → ℕ) (n m : ℕ) → 0 < m → ((i : ℕ) → f i < m) → AllBelow m (upTo f n)
-upTo-below f n m some all i =
-    ⊎-elim (λ h. subst (λ (x : ℕ). x < m) (sym (upTo-at f n i h)) (all i))
-    (λ h.
-    let past : length (upTo f n) ≤ i = omega (arith, upTo-length f n) in
-    subst (λ (x : ℕ). x < m) (sym (List·getD-eq-default (upTo f n) 0 {n = i} past)) some)
-    (below-or-past i n)
 
 -- a store that a loop going up makes: the run is one longer, and what lies behind stays
 pub upTo-set : (f : ℕ → ℕ) (l : List ℕ) (i j x : ℕ) → i < length l → j ≡ i + 1 → x ≡ f i

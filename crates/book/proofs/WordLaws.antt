@@ -19,7 +19,7 @@ byte-at f p i j x h e q =
     λ k. byteOf ((q ∙ ap f word) k) (place k)
 
 -- the four stores of a word: the bytes are those of one word more, and what lies behind stays
-pub bytes-more : (f : ℕ → ℕ) (l : List ℕ) (p x : ℕ) → 4 * p + 4 ≤ length l → x ≡ f p
+bytes-more : (f : ℕ → ℕ) (l : List ℕ) (p x : ℕ) → 4 * p + 4 ≤ length l → x ≡ f p
     → withWord (bytesOf f p ++ drop (4 * p) l) p x ≡ bytesOf f (p + 1) ++ drop (4 * (p + 1)) l
 unfolding bytesOf
 bytes-more f l p x room value =
@@ -33,9 +33,25 @@ bytes-more f l p x room value =
     (upTo-set g l (at + 2) (at + 3) (byteOf x 2) (omega arith) (omega arith) (byte-at f p 2 (at + 2) x (omega arith) refl value))
     ∙ upTo-set g l (at + 3) (4 * (p + 1)) (byteOf x 3) (omega arith) (omega arith) (byte-at f p 3 (at + 3) x (omega arith) refl value)
 
-pub bytes-none : (f : ℕ → ℕ) (l : List ℕ) → l ≡ bytesOf f 0 ++ drop (4 * 0) l
+-- the first p words are put, wherever they come from, and what lies behind is as it was
+pub record Put (f : ℕ → ℕ) (lent room : List ℕ) (p : ℕ) : Type 0 where
+  pub written : room ≡ bytesOf f p ++ drop (4 * p) lent
+  pub as-long : length room ≡ length lent
+
+pub put-none : (f : ℕ → ℕ) (lent : List ℕ) → Put f lent lent 0
 unfolding bytesOf upTo
-bytes-none f l = refl
+put-none f lent = record { written = refl; as-long = refl }
+
+pub put-more : (f : ℕ → ℕ) (lent room next : List ℕ) (p x : ℕ) → Put f lent room p → 4 * p + 4 ≤ length lent → x ≡ f p
+    → next ≡ withWord room p x → length next ≡ length room → Put f lent next (p + 1)
+put-more f lent room next p x g fits value e same =
+    record {
+      written = e ∙ ap (λ (r : List ℕ). withWord r p x) (g .written) ∙ bytes-more f lent p x fits value;
+      as-long = same ∙ g .as-long;
+    }
+
+pub put-all : (f : ℕ → ℕ) (lent room : List ℕ) (p n : ℕ) → Put f lent room p → p ≡ n → room ≡ bytesOf f n ++ drop (4 * n) lent
+put-all f lent room p n g e = g .written ∙ ap (λ (k : ℕ). bytesOf f k ++ drop (4 * k) lent) e
 
 pub bytes-length : (f : ℕ → ℕ) (n : ℕ) → length (bytesOf f n) ≡ 4 * n
 unfolding bytesOf
@@ -101,10 +117,6 @@ word-of-part b at n q j e h =
     + 256 * byte (4 * j + 1) (4 * (q + j) + 1) (omega arith) (omega arith) k
     + 65536 * byte (4 * j + 2) (4 * (q + j) + 2) (omega arith) (omega arith) k
     + 16777216 * byte (4 * j + 3) (4 * (q + j) + 3) (omega arith) (omega arith) k
-
-pub word-fits : (b : List ℕ) → AllBelow 256 b → (p : ℕ) → wordAt b p < 2 ^ 32
-unfolding wordAt
-word-fits b h p = omega (arith, h (4 * p), h (4 * p + 1), h (4 * p + 2), h (4 * p + 3))
 
 -- the words from word 3 on of a signal block are its words of the list; past them all is zero
 pub signal-listed : (l : List ℕ) (k w : ℕ) → 3 ≤ w → w < 123 → getD (signalBlock l k) w 0 ≡ getD l (120 * (k - 1) + (w - 3)) 0

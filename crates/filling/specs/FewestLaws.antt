@@ -3,13 +3,13 @@
 use mathlib.Core.Path.{_≡_, refl, ap, _∙_}
 use mathlib.Core.Logic.{⊎-elim, dite}
 use mathlib.Core.List.{List, [], _∷_}
-use Prim.Native.Nat.{ℕ, suc, _+_, _-_, _*_, _≤_, _<_}
+use Prim.Native.Nat.{ℕ, suc, _+_, _*_, _≤_, _<_}
 use native.Mathlib.Nat.{le-refl, le-trans, zero-mul, one-mul}
 use native.Mathlib.Decide.{decLt}
 use native.Mathlib.Omega.{arith}
 use Rattle.cycles.specs.Loads.{slotsFor}
-use Rattle.filling.specs.Sums.{sum, total, same}
-use Rattle.filling.specs.SumLaws.{same-cases, same-apart, sum-zero, sum-le, sum-const, sum-split}
+use Rattle.filling.specs.Sums.{total, same}
+use Rattle.filling.specs.SumLaws.{same-cases, same-apart}
 use Rattle.filling.specs.Rows.{takes, share, firstFree}
 use Rattle.filling.specs.RowLaws.{first-free}
 use Rattle.filling.specs.Tables.{Placed, Each, cells, Valid, Table, load, taken, used}
@@ -120,28 +120,6 @@ run-table k es r = record {
 }
 
 -- ---- the fewest slots
-
--- frames in the slots after k, up to m
-pub used-between : (k m : ℕ) (ps : List Placed) → k ≤ m → Each (λ p. k < p .slot) ps → used ps (m + 1) + k ≤ m
-used-between k m ps h past =
-    let n = m - k in
-    let e : m + 1 ≡ k + 1 + n = omega arith in
-    let low : sum (taken ps) (k + 1) ≡ 0 = sum-zero (taken ps) (k + 1) (λ j l. nothing j (omega arith)) in
-    let high = sum-le (λ j. taken ps (k + 1 + j)) (λ j. 1) n (λ j l. omega arith) in
-    omega (arith, ap (sum (taken ps)) e, sum-split (taken ps) (k + 1) n, sum-const 1 n)
-  where
-    nothing : (j : ℕ) → j ≤ k → taken ps j ≡ 0
-    nothing j l =
-        let z = each-apart j ps (each-map (λ p. k < p .slot) (λ p. p .slot ≡ j → ⊥) ps (λ p q e. omega arith) past) in
-        omega arith
-
-pub run-used : (k : ℕ) (es : List ℕ) → Rising 0 es → used (run (start k) es) (last k es + 1) ≡ slotsFor (total share es)
-run-used k es r =
-    let n = run-slots k es r in
-    let most = used-between k (last k es) (run (start k) es) (end-grows (start k) es) (start-past k es) in
-    let least = slots-bound (last k es + 1) (run (start k) es) (run-table k es r) in
-    let same-load = run-load (start k) es in
-    omega (arith, ap slotsFor same-load)
 
 -- no table with the load of the run's frames uses fewer slots
 pub run-fewest : (k : ℕ) (es : List ℕ) → Rising 0 es → (n : ℕ) (ps : List Placed) → Table n ps → load ps ≡ total share es

@@ -19,7 +19,7 @@ use Rattle.filling.specs.Tables.Each.{empty, entry}
 use Rattle.filling.specs.TableLaws.{each-map, each-both, each-apart, empty-slot}
 use Rattle.filling.specs.Runs.{start, run, Rising}
 use Rattle.filling.specs.RunLaws.{run-slots}
-use Rattle.filling.specs.FewestLaws.{run-table, run-load, end-grows, start-past, used-between}
+use Rattle.filling.specs.FewestLaws.{run-table, run-load, end-grows, start-past}
 use Rattle.filling.specs.Units.{Owned, frames, keepIf, ofUnit, UnitTable, needed}
 use Rattle.filling.specs.UnitLaws.{units-bound}
 use Rattle.filling.specs.Plans.{last, own, plan, planEnd}
@@ -197,24 +197,10 @@ module _ (f : ℕ → List ℕ) (r : AllRising f) where
       sum-ext (λ u. slotsFor (load (ofUnit u ts))) (λ u. slotsFor (total share (f (0 + u)))) U
       (λ u l. ap slotsFor (h u l ∙ ap (λ (x : ℕ). total share (f x)) (sym (zero-add u))))
 
-  -- of the units below U: the plan uses what they need
-  pub plan-used : (U : ℕ) → used (frames (plan f U 0 0)) (planEnd f U 0 0 + 1) ≡ needs f U 0
-  plan-used U =
-      let ts = plan f U 0 0 in
-      let most = used-between 0 (planEnd f U 0 0) (frames ts) zero-le (each-frames (λ p. 0 < p .slot) ts (plan-past U 0 0)) in
-      let least = units-bound (planEnd f U 0 0 + 1) U ts (plan-table U 0 0) in
-      omega (arith, plan-slots f r U 0 0, alike U ts (λ u l. plan-load U 0 0 u zero-le (omega arith)))
-
   -- and no table with one unit to a slot and the same loads uses fewer
   pub plan-fewest : (U n : ℕ) (ts : List Owned) → UnitTable n ts
       → ((u : ℕ) → u < U → load (ofUnit u ts) ≡ total share (f u)) → planEnd f U 0 0 ≤ used (frames ts) n
   plan-fewest U n ts w h = omega (arith, plan-slots f r U 0 0, units-bound n U ts w, alike U ts h)
-
-  -- so where such a table stands in the slots 1 to n, the plan does
-  pub plan-fits : (U n : ℕ) (ts : List Owned) → UnitTable (n + 1) ts → Each (λ p. 0 < p .slot) (frames ts)
-      → ((u : ℕ) → u < U → load (ofUnit u ts) ≡ total share (f u)) → planEnd f U 0 0 ≤ n
-  plan-fits U n ts w past h =
-      omega (arith, plan-fewest U (n + 1) ts w h, used-between 0 n (frames ts) zero-le past)
 
   -- and the plan of loads that are nowhere larger takes no more slots
   pub plan-monotone : (g : ℕ → List ℕ) → AllRising g → (U : ℕ)

@@ -1,7 +1,6 @@
 -- Laws of `Says`: how a flag comes to say a fact, and what a test of the flag learns.
 use mathlib.Core.Path.{_≡_, refl}
 use mathlib.Core.Bool.{Bool, true, false, not, true≢false, false≢true}
-use lib.Dec.{T}
 use Rattle.laws.specs.Says.{Says}
 
 -- a flag says the fact that each of its two values decides

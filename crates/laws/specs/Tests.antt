@@ -1,9 +1,9 @@
 -- Facts about finitely many numbers: a test that antt computes at each number below a bound, and the law that
 -- turns it into the fact at each.
 use mathlib.Core.Bool.{Bool, true, false}
-use mathlib.Core.Path.{_≡_, sym, subst}
-use mathlib.Core.Logic.{⊎-elim, _⊎_}
-use Prim.Native.Nat.{ℕ, zero, suc, _≤_, _<_}
+use mathlib.Core.Path.{sym, subst}
+use mathlib.Core.Logic.{⊎-elim}
+use Prim.Native.Nat.{ℕ, zero, suc, _<_}
 use native.Mathlib.Nat.{not-suc-le-zero, eq-or-lt-of-le, le-of-suc-le-suc, suc-inj, le-step, le-refl}
 use lib.Dec.{T}
 use Rattle.laws.specs.Says.{Says}

@@ -1,6 +1,6 @@
 -- Laws of the rule: the search over plain numbers decides `Keeps`; if R keeps, every smaller one does; one that keeps
 -- stays within the period (the paper's equation 2); a higher bound never gives a smaller one; the outcome is unique.
-use mathlib.Core.Path.{_≡_, refl, _∙_, sym, ap, subst}
+use mathlib.Core.Path.{_≡_, refl, _∙_, ap, subst}
 use mathlib.Core.List.{List, List·Memᴰ}
 use mathlib.Core.Logic.{dite, _⊎_, inr, ⊎-elim}
 use Prim.Native.Nat.{ℕ, _+_, _*_, _-_, _/_, _%_, _≤_, _<_}
@@ -17,7 +17,7 @@ use Rattle.terms.specs.declared.Signal.{Signal}
 use Rattle.terms.specs.declared.Frame.{Frame}
 use Rattle.terms.specs.Ranges.{Between, Valid, Repetition}
 use Rattle.terms.specs.RepetitionLaws.{repetition-positive, repetition-most, repetition-multiple, half-repetition, below-half}
-use Rattle.age.specs.Age.{Age, IsAge, firstStart, spanOf}
+use Rattle.age.specs.Age.{IsAge, firstStart, spanOf}
 use Rattle.age.specs.AgeLaws.{age-exists}
 use Rattle.age.specs.SpanLaws.{oftener-younger, span-within-period}
 use Rattle.age.specs.FrameLaws.{first-below-span}

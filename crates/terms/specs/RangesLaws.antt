@@ -1,7 +1,7 @@
 -- Laws of a list of ranges: the first that fails has one word, which is 0 exactly where all hold.
 use mathlib.Core.Path.{_≡_, _∙_, sym, subst}
 use mathlib.Core.List.{List, [], _∷_}
-use mathlib.Core.Logic.{_⊎_, inl, inr}
+use mathlib.Core.Logic.{inl, inr}
 use Prim.Native.Nat.{ℕ, _≤_}
 use native.Mathlib.Omega.{arith}
 use lib.Dec.{lit≤}

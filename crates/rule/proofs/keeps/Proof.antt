@@ -3,7 +3,7 @@
 use native.Mathlib.Nat.{mod-lt}
 use native.Mathlib.Omega.{arith}
 use borrow.Author.Needs.{needs}
-use Prim.Native.Nat.{_*_, _<_}
+use Prim.Native.Nat.{_*_}
 use Rattle.laws.specs.DivisorLaws.{gcd-positive, divisor-at-most}
 use Rattle.laws.specs.SaysLaws.{says-same}
 use Rattle.terms.specs.Ranges.{Between}

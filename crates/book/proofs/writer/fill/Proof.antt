@@ -1,23 +1,22 @@
 -- `book::writer::fill` meets its contract. The loop's invariant: the bytes of the first p words are the book's, what lies
 -- behind is as it was, and the sum is that of 1 and the words of the block so far.
-use mathlib.Core.Path.{_≡_, refl, ap, _∙_}
-use mathlib.Core.List.{List, _++_}
+use mathlib.Core.Path.{_≡_, ap, _∙_}
+use mathlib.Core.List.{_++_}
 use Prim.Native.Nat.{ℕ, _+_, _-_, _*_, _/_, _%_, _^_, _≤_}
 use native.Mathlib.Omega.{arith}
-use lib.ListN.{length, drop}
+use lib.ListN.{drop}
 use borrow.Author.Needs.{needs}
-use Rattle.book.specs.Words.{sumUpTo, withWord, bytesOf}
+use Rattle.book.specs.Words.{sumUpTo, bytesOf}
 use Rattle.book.specs.Blocks.{bodyWord, bookWord}
 use Rattle.book.proofs.RunLaws.{sum-none, sum-past-word}
-use Rattle.book.proofs.WordLaws.{bytes-none, bytes-more}
+use Rattle.book.proofs.WordLaws.{Put, put-none, put-more, put-all}
 use Rattle.book.proofs.WrittenLaws.{block-body}
 use Rattle.book.proofs.writer.fill.Statement.{statement}
 use Rattle.book.proofs.writer.fill.Tie as tie
 
 abbrev Inv-loop : tie.InvT-loop
 Inv-loop s list room₀ blocks words sum₀ p₀ room sum p =
-    (p ≤ words) × (room ≡ bytesOf (bookWord s list) p ++ drop (4 * p) room₀) × (length room ≡ length room₀)
-    × (sum ≡ (sumUpTo (bodyWord s list (p / 128)) (p % 128) + 1) % 2 ^ 32)
+    (p ≤ words) × Put (bookWord s list) room₀ room p × (sum ≡ (sumUpTo (bodyWord s list (p / 128)) (p % 128) + 1) % 2 ^ 32)
 
 abbrev μ-loop : tie.MeasureT-loop
 μ-loop s list room₀ blocks words sum₀ p₀ room sum p = words - p
@@ -29,8 +28,7 @@ loop-holds : tie.Need-loop-holds Inv-loop μ-loop
 loop-holds c =
     let start = c .before .before .args in (
       omega arith,
-      bytes-none (bookWord (start .s) (start .list .now)) (start .room .now),
-      refl,
+      put-none _ _,
       omega (arith, sum-none (bodyWord (start .s) (start .list .now) 0)),
     )
 
@@ -55,29 +53,23 @@ loop-again c =
     let start = c .before .before .before .before .before .before .before .before .before .before .args in
     let head = c .before .before .before .before .before .before .before .loop in
     let made = c .before .before .before .before .before .block-word in
-    let put = c .before .before .before .put-word in
-    let fits : 4 * head .p + 4 ≤ length (start .room .now) = omega arith in (
+    let put = c .before .before .before .put-word in (
       omega arith,
-      put .ensures
-          ∙ ap (λ (r : List ℕ). withWord r (head .p) (made .result)) (head .inv .1)
-          ∙ bytes-more (bookWord (start .s) (start .list .now)) (start .room .now) (head .p) (made .result) fits (made .ensures),
-      put .kept .0 ∙ head .inv .2,
+      put-more _ _ (head .room) _ (head .p) _ (head .inv .1) (omega arith) (made .ensures) (put .ensures) (put .kept .0),
       c .sum-past .ensures
-          ∙ sum-past-word (bodyWord (start .s) (start .list .now)) (head .p) (head .sum) (made .result) (head .inv .3)
+          ∙ sum-past-word (bodyWord (start .s) (start .list .now)) (head .p) (head .sum) (made .result) (head .inv .2)
           (λ low. made .ensures ∙ block-body (start .s) (start .list .now) (head .p / 128) (head .p % 128) low),
     )
 
 same-length : tie.Need-same-length Inv-loop μ-loop
-same-length c = c .before .loop .inv .2
+same-length c = c .before .loop .inv .1 .as-long
 
 returns : tie.Need-returns Inv-loop μ-loop
 returns c =
     let start = c .before .before .before .before .args in
     let head = c .before .loop in
-    let past : head .p ≡ 128 * start .blocks = omega arith in
     let end : 4 * (128 * start .blocks) ≡ 512 * start .blocks = omega arith in
-    head .inv .1
-    ∙ ap (λ (k : ℕ). bytesOf (bookWord (start .s) (start .list .now)) k ++ drop (4 * k) (start .room .now)) past
+    put-all _ _ _ (head .p) (128 * start .blocks) (head .inv .1) (omega arith)
     ∙ ap (λ (k : ℕ). bytesOf (bookWord (start .s) (start .list .now)) (128 * start .blocks) ++ drop k (start .room .now)) end
 
 pub fill-spec : {M : Type 1} → statement M

@@ -1,7 +1,7 @@
 -- `planner::judge::bound_not_kept` meets its contract: a loop over the signals that keeps the repetitions found.
 -- The measure is what is left of the signals. Assumes nothing.
 use mathlib.Core.Path.{_≡_, refl, subst}
-use Prim.Native.Nat.{ℕ, _+_, _*_, _-_, _≤_}
+use Prim.Native.Nat.{_+_, _*_, _-_, _≤_}
 use native.Mathlib.Omega.{arith}
 use lib.ListN.{length, length-set}
 use native.Mathlib.Nat.{pos-of-ne-zero}

@@ -1,7 +1,7 @@
 -- `planner::judge::field_out_of_range` meets its contract: a loop over the signals. The measure is what is left of them.
 -- Assumes nothing.
 use mathlib.Core.Path.{subst}
-use Prim.Native.Nat.{ℕ, _+_, _-_}
+use Prim.Native.Nat.{_+_, _-_}
 use native.Mathlib.Omega.{arith}
 use borrow.Author.Needs.{needs}
 use Rattle.laws.specs.SaysLaws.{granted, refused}

@@ -2,7 +2,7 @@
 -- The measure is what is left of the signals. Assumes nothing.
 use mathlib.Core.Path.{_≡_, _∙_, sym, ap, subst}
 use mathlib.Core.Logic.{dite}
-use Prim.Native.Nat.{ℕ, _+_, _*_, _-_, _/_, _≤_}
+use Prim.Native.Nat.{_+_, _*_, _-_, _/_, _≤_}
 use native.Mathlib.Decide.{ℕ-discrete}
 use native.Mathlib.Nat.{div-le-self}
 use native.Mathlib.Omega.{arith}

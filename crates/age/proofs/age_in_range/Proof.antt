@@ -1,7 +1,8 @@
 -- `age::age_in_range` meets its contract: a frame in range has small numbers, and the formula gives its age.
 -- Assumes nothing.
+use Prim.Native.Nat.{ℕ, _+_, _≤_, _<_}
 use native.Mathlib.Omega.{arith}
-use lib.Dec.{lit<}
+use lib.Dec.{lit<, lit≤}
 use Rattle.laws.specs.Orders.{product-below}
 use Rattle.terms.specs.RepetitionLaws.{repetition-most}
 use Rattle.age.specs.FrameLaws.{FrameBounded, frame-bounded}
@@ -31,8 +32,18 @@ numbers : (c : tie.After-struct-known6) → FrameBounded (Arguments c .args .s) 
 numbers c =
     frame-bounded (Arguments c .args .s) (Arguments c .args .x) (Arguments c .args .f) (Arguments c .pre)
 
+sum-below : {a b : ℕ} (A B : ℕ) {N : ℕ} → a < A → b < B → A + B ≤ N → a + b < N
+sum-below A B ha hb h = omega arith
+
 add-first : tie.Need-add-first
-add-first c = let bounded = numbers c in omega arith
+add-first c =
+    let start = Arguments c in
+    let most = repetition-most (start .args .f .repetition) (start .pre .frame .repetition) in
+    record {
+      fits =
+          sum-below 1024001 2048001 (product-below 64 16000 (omega (arith, most)) (omega arith) (lit< tt))
+          (product-below 128 16000 (omega arith) (omega arith) (lit< tt)) (lit≤ tt);
+    }
 
 by-formula-requires : tie.Need-by-formula-requires
 by-formula-requires c κs = numbers c

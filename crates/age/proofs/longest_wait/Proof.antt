@@ -1,7 +1,7 @@
 -- `age::longest_wait` meets its contract, by the law that takes the longest wait from the top down.
 -- Assumes nothing.
-use Prim.Native.Nat.{_-_, _%_}
-use native.Mathlib.Nat.{mod-le, mod-lt}
+use Prim.Native.Nat.{_%_}
+use native.Mathlib.Nat.{le-trans, mod-le, mod-lt}
 use native.Mathlib.Omega.{arith}
 use borrow.Author.Needs.{needs}
 use Rattle.age.specs.FormulaLaws.{longest-from-top}
@@ -27,9 +27,7 @@ rem-result : tie.Need-rem-result
 rem-result c = search needs
 
 sub-result-2 : tie.Need-sub-result-2
-sub-result-2 c =
-    let d = c .before .before .args .n % c .before .before .args .g in
-    omega (arith, mod-le (c .before .before .args .limit - 1 - d) (c .before .before .args .g))
+sub-result-2 c = le-trans (mod-le _ _) (omega arith)
 
 returns-3 : tie.Need-returns-3
 returns-3 c =

@@ -1,6 +1,5 @@
 -- `age::by_formula` meets its contract: the divisor is the greatest, and the wait given of it makes the age.
 -- Assumes nothing.
-use Prim.Native.Nat.{_+_, _-_, _%_}
 use native.Mathlib.Nat.{mod-lt}
 use native.Mathlib.Omega.{arith}
 use borrow.Author.Needs.{needs}
@@ -13,7 +12,7 @@ gcd-requires : tie.Need-gcd-requires
 gcd-requires c κs = search needs
 
 rem-ahead : tie.Need-rem-ahead
-rem-ahead c = gcd-positive (c .before .args .period) (c .before .args .span) (c .gcd .result) (c .gcd .ensures) (omega arith)
+rem-ahead c = gcd-positive _ _ (c .gcd .result) (c .gcd .ensures) (omega arith)
 
 sub-ahead : tie.Need-sub-ahead
 sub-ahead c = omega (arith, mod-lt (c .before .args .offset) (rem-ahead c))
@@ -29,10 +28,7 @@ longest-wait-requires : tie.Need-longest-wait-requires
 longest-wait-requires c κs = search needs
 
 add-result : tie.Need-add-result
-add-result c =
-    let a = c .before .before .args in
-    let g = c .before .gcd .result in
-    omega (arith, longest-given-most (a .packing + a .span) (a .first + (g - a .offset % g)) g (c .longest-wait .result) (c .longest-wait .ensures))
+add-result c = omega (arith, longest-given-most _ _ _ (c .longest-wait .result) (c .longest-wait .ensures))
 
 returns : tie.Need-returns
 returns c =

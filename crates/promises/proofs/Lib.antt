@@ -6,3 +6,6 @@ pub mod Striking
 pub mod Placing
 pub mod Accepted
 pub mod Demand3
+pub mod RowLaws
+pub mod PlaceLaws
+pub mod Demand1

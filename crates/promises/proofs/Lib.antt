@@ -9,3 +9,4 @@ pub mod Demand3
 pub mod RowLaws
 pub mod PlaceLaws
 pub mod Demand1
+pub mod Demand2

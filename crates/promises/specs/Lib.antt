@@ -1,3 +1,4 @@
 pub mod Tables
 pub mod Changes
 pub mod Rows
+pub mod Shows

@@ -7,3 +7,5 @@ pub mod AgeLaws
 pub mod SpanLaws
 pub mod FrameLaws
 pub mod GivenLaws
+pub mod RangeTests
+pub mod AgeTests

@@ -18,8 +18,8 @@ use Rattle.planner.specs.Lists.{count, signalAt, EachSignal, Repetitions}
 use Rattle.planner.specs.Filled.{Place, filled, needed}
 use Rattle.planner.specs.Judged.{repetitionIn}
 use Rattle.cases.specs.Cases.{Filled}
-use Rattle.cases.proofs.Ranges.{valid-test}
-use Rattle.cases.proofs.Rule.{gets-test}
+use Rattle.age.specs.RangeTests.{valid-test}
+use Rattle.rule.specs.RuleTests.{gets-test}
 
 -- two places are the same where their three numbers are
 abbrev same-place : (p q : Place) → Test (p ≡ q)

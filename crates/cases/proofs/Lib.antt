@@ -1,4 +1,2 @@
-pub mod Ranges
-pub mod Rule
 pub mod Filling
 pub mod Starred

@@ -1,3 +1,4 @@
 pub mod Rule
 pub mod Waits
 pub mod RuleLaws
+pub mod RuleTests

@@ -24,10 +24,10 @@ use Rattle.age.specs.Formula.{Longest}
 use Rattle.age.specs.FormulaLaws.{longest-from-top}
 use Rattle.age.specs.Given.{LongestGiven}
 use Rattle.age.specs.GivenLaws.{longest-given-unique}
 use Rattle.rule.specs.Rule.{Keeps, segment, Largest}
 use Rattle.rule.specs.RuleLaws.{span-range, searched-keeps, keeps-searched, smaller-keeps}
 use Rattle.rule.specs.Waits.{WaitKept, BasesKept}
-use Rattle.cases.proofs.Ranges.{repetition-test}
+use Rattle.age.specs.RangeTests.{repetition-test}
 
 -- the longest wait below the limit that leaves what n leaves by g
 abbrev wait : (limit g n : ℕ) → ℕ

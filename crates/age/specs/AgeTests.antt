@@ -1,7 +1,7 @@
 -- The age of a signal in a frame as a test that antt computes, by the paper's equations 6 and 7.
 -- Assumes nothing.
-use mathlib.Core.Path.{_≡_, subst}
-use Prim.Native.Nat.{ℕ, _+_, _*_, _-_, _%_}
+use mathlib.Core.Path.{subst}
+use Prim.Native.Nat.{ℕ, _+_, _-_, _%_}
 use native.Mathlib.Omega.{arith}
 use Rattle.laws.specs.Shown.{Test, equal, join, shown}
 use Rattle.laws.specs.DivisorLaws.{euclid, euclid-gcd, gcd-positive}

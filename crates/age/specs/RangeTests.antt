@@ -1,6 +1,6 @@
 -- The ranges as tests that antt computes, with what each shows where it passes.
 -- Assumes nothing.
-use Prim.Native.Nat.{ℕ, _*_, _%_, _≤_, _<_}
+use Prim.Native.Nat.{ℕ, _*_, _%_}
 use native.Mathlib.Omega.{arith}
 use Rattle.laws.specs.Shown.{Test, passing, at-most, less, equal, join, shown}
 use Rattle.terms.specs.declared.Settings.{Settings}

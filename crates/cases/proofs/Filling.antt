@@ -1,20 +1,18 @@
 -- The filling of a list as tests that antt computes: each signal's repetition, the places and the slots.
 -- Assumes nothing.
-use mathlib.Core.Path.{_≡_, refl, _∙_, sym, ap, subst}
-use mathlib.Core.Bool.{Bool, true, false}
+use mathlib.Core.Path.{_≡_, refl, sym, subst}
+use mathlib.Core.Bool.{false}
 use mathlib.Core.List.{List, [], _∷_}
 use mathlib.Core.Logic.{⊎-elim}
-use Prim.Native.Nat.{ℕ, zero, suc, _+_, _≤_, _<_}
+use Prim.Native.Nat.{ℕ, zero, suc}
 use native.Mathlib.Nat.{eq-or-lt-of-le}
 use native.Mathlib.Omega.{arith}
-use lib.Dec.{T, eqb, eqb→eq}
-use Rattle.laws.specs.Tests.{both, both-left, both-right}
 use Rattle.laws.specs.Shown.{Test, passing, equal, join, shown}
 use Rattle.terms.specs.declared.Settings.{Settings}
 use Rattle.terms.specs.declared.Signal.{Signal}
 use Rattle.terms.specs.Ranges.{Between, Valid}
 use Rattle.rule.specs.Rule.{Keeps, segment, Largest}
-use Rattle.planner.specs.Lists.{count, signalAt, EachSignal, Repetitions}
+use Rattle.planner.specs.Lists.{count, signalAt}
 use Rattle.planner.specs.Filled.{Place, filled, needed}
 use Rattle.planner.specs.Judged.{repetitionIn}
 use Rattle.cases.specs.Cases.{Filled}

@@ -10,3 +10,5 @@ pub mod RowLaws
 pub mod PlaceLaws
 pub mod Demand1
 pub mod Demand2
+pub mod Named
+pub mod Shams

@@ -2,3 +2,4 @@ pub mod Tables
 pub mod Changes
 pub mod Rows
 pub mod Shows
+pub mod Inputs

@@ -12,3 +12,4 @@ pub mod Demand1
 pub mod Demand2
 pub mod Named
 pub mod Shams
+pub mod NotVacuous

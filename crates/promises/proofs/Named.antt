@@ -23,7 +23,7 @@ use Rattle.book.specs.Outcomes.{WriteOutcome}
 use Rattle.book.proofs.AnswerLaws.{write-done, write-filled}
 use Rattle.book.proofs.WrittenLaws.{written-length}
 use Rattle.promises.specs.Tables.{Table}
-use Rattle.promises.specs.Inputs.{settings, fresh, stale, case1, twice}
+use Rattle.promises.specs.Inputs.{settings, fresh, stale, case1, case3, twice}
 use Rattle.promises.proofs.Demand3.{Ready}
 
 pub fresh-valid : Valid settings fresh
@@ -49,7 +49,7 @@ one : Repetition 1
 one = (0, lit≤ tt, refl)
 
 -- what holds of the first signal of one, and of the first and second of two
-at-one : (P : ℕ → Type 0) → P 1 → (i : ℕ) → Between 1 1 i → P i
+pub at-one : (P : ℕ → Type 0) → P 1 → (i : ℕ) → Between 1 1 i → P i
 at-one P p i b = subst P (omega (arith, b)) p
 
 at-two : (P : ℕ → Type 0) → P 1 → P 2 → (i : ℕ) → Between 1 2 i → P i
@@ -87,6 +87,16 @@ module _ (cells results : List ℕ) (room : 5952 ≤ length cells) where
         settings = fresh-valid .settings;
         right = record { whole = refl; few = lit≤ tt };
         signals = at-one (λ i. SignalInRange settings (signalAt case1 i)) (fresh-valid .signal);
+        cells-room = room;
+        results-room = l;
+      }
+
+  pub case3-ready : 4 ≤ length results → Ready settings case3 cells results
+  case3-ready l =
+      record {
+        settings = stale-valid .settings;
+        right = record { whole = refl; few = lit≤ tt };
+        signals = at-one (λ i. SignalInRange settings (signalAt case3 i)) (stale-valid .signal);
         cells-room = room;
         results-room = l;
       }

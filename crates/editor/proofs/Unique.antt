@@ -95,7 +95,7 @@ module _ (s : Settings) (list : List ℕ) (right : SettingsInRange s) (ranged : 
     own = filled-own list R (kept-seven s list R kept found)
 
     -- no age is 0, so the last word of the last signal is there
-    all-there : 4 * count list ≤ length words
+    pub all-there : 4 * count list ≤ length words
     all-there =
         dite (decLe (4 * count list) (length words)) (λ l. l)
         (λ n.

@@ -10,6 +10,7 @@ pub mod RowLaws
 pub mod PlaceLaws
 pub mod Demand1
 pub mod Demand2
+pub mod EditorShows
 pub mod Named
 pub mod Shams
 pub mod NotVacuous

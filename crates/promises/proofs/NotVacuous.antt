@@ -1,7 +1,7 @@
 -- For each definition that the three demands rest on, one thing that satisfies it and one that does not, most of them from
 -- "Examples with numbers"; so no promise holds for want of anything to speak of.
 -- Assumes nothing.
-use mathlib.Core.Path.{_≡_, refl, sym, ap, subst}
+use mathlib.Core.Path.{_≡_, refl, _∙_, sym, ap, subst}
 use mathlib.Core.Bool.{true, true≢false}
 use mathlib.Core.List.{List, [], _∷_, List·Memᴰ}
 use mathlib.Core.Logic.{inl, inr, dite}
@@ -20,16 +20,18 @@ use Rattle.terms.specs.RepetitionLaws.{repetition-positive, repetition-multiple
 use Rattle.age.specs.Age.{Age, Release, Carries, firstStart, spanOf}
 use Rattle.age.specs.AgeLaws.{age-unique}
 use Rattle.age.specs.AgeTests.{age-test}
+use Rattle.rule.specs.Rule.{Keeps, segment, Largest}
 use Rattle.cycles.specs.Frames.{Names}
 use Rattle.cycles.specs.FrameLaws.{named-remainder}
-use Rattle.planner.specs.Lists.{CountInRange, signalAt, EachSignal, Kept, LowestWithout}
+use Rattle.planner.specs.Lists.{CountInRange, signalAt, EachSignal, Kept, LowestWithout, Repetitions}
 use Rattle.planner.specs.Planned.{Planned}
 use Rattle.planner.specs.Planned.Planned.{refused, done}
-use Rattle.planner.specs.Filled.{Place, needed, unitLoad, filled}
+use Rattle.planner.specs.Filled.{Place, unitFrames, needed, unitLoad, filled}
 use Rattle.planner.specs.LoadLaws.{nothing-left}
+use Rattle.planner.specs.JudgedLaws.{needed-same}
 use Rattle.planner.specs.CoverLaws.{filled-own}
 use Rattle.cycles.specs.Loads.{slotsFor}
-use Rattle.filling.specs.Sums.{sum, same}
+use Rattle.filling.specs.Sums.{sum, total}
 use Rattle.filling.specs.SumLaws.{sum-zero}
 use Rattle.book.specs.Reading.{sound, judged, lengthRight}
 use Rattle.book.proofs.SoundLaws.{facts-sound}
@@ -42,7 +44,7 @@ use Rattle.promises.specs.Changes.Struck.{end, kept, struck}
 use Rattle.promises.specs.Shows.{Shows}
 use Rattle.promises.specs.Inputs.{settings, fresh, stale, case1, case3, twice, blank, case1-book}
 use Rattle.promises.proofs.Named.{fresh-valid, fresh-gets, stale-gets, case1-table, case1-ready, case3-ready, at-one, settings-words, case1-words}
-use Rattle.promises.proofs.Demand3.{Ready, refused-exactly, fewest}
+use Rattle.promises.proofs.Demand3.{Ready, accepted, refused-exactly}
 use Rattle.promises.proofs.Demand1.{planning-exactly}
 use Rattle.promises.proofs.Demand2.{accepted-shows}
 use Rattle.promises.proofs.Shams.{refuses-all, writes-nothing}
@@ -163,16 +165,20 @@ struck-no s = omega (arith, shorter s)
 -- ---- outcomes of planning
 
 module _ (cells results : List ℕ) (room : 5952 ≤ length cells) (words : 4 ≤ length results) where
+  case1-repetitions : Repetitions settings case1 (λ i. 1)
+  case1-repetitions = at-one (λ i. Largest (Keeps settings (signalAt case1 i) (segment settings)) 1) fresh-gets
+
   -- case 1 is accepted, in one slot
   pub case1-accepted : (a : Answer) (cells′ results′ : List ℕ) → Planned settings case1 cells results a cells′ results′
-      → (numberOf a ≡ 0) × (placeOf a ≤ 1)
-  unfolding sum same
+      → (numberOf a ≡ 0) × (placeOf a ≡ 1)
+  unfolding sum total unitFrames
   case1-accepted a cells′ results′ p =
       let ready = case1-ready cells results room words in
       let number : numberOf a ≡ 0 =
       dite (ℕ-discrete (numberOf a) 0) (λ e. e)
       (λ n. absurd (refuses-all a n (refused-exactly settings case1 cells results ready a cells′ results′ p))) in
-      (number, fewest settings case1 cells results ready a cells′ results′ p number (λ i. 1) (λ i. 1) (λ i. 0) case1-table)
+      let k = accepted settings case1 cells results ready a cells′ results′ p number in
+      (number, k .place ∙ needed-same settings case1 (k .R) (λ i. 1) (k .repetitions) case1-repetitions)
 
   not-each : EachSignal case3 (Kept settings) → ⊥
   not-each k = kept-no (k 1 (lit≤ tt, lit≤ tt))

@@ -10,6 +10,7 @@ use Rattle.terms.specs.Ranges.{Between, FrameInRange}
 use Rattle.age.specs.Age.{Age}
 use Rattle.cycles.specs.Frames.{Names}
 use Rattle.planner.specs.Lists.{count, signalAt}
+use Rattle.book.specs.Words.{wordAt}
 
 -- the four words of signal i's result: "slot, base, repetition, age"
 abbrev pub frameOf : List ℕ → ℕ → Frame
@@ -45,3 +46,21 @@ pub record Shows (s : Settings) (list cells results cells′ results′ : List �
   -- what lies behind the table and the results stays
   pub cells-kept : (length cells′ ≡ length cells) × ((j : ℕ) → 64 * s .slots ≤ j → getD cells′ j 0 ≡ getD cells j 0)
   pub results-kept : (length results′ ≡ length results) × ((j : ℕ) → 4 * count list ≤ j → getD results′ j 0 ≡ getD results j 0)
+
+-- ---- from the editor, where "each result then comes as four little-endian words, 16 bytes a signal"
+
+abbrev pub frameIn : List ℕ → ℕ → Frame
+frameIn bytes i =
+    record {
+      slot = wordAt bytes (4 * (i - 1));
+      base = wordAt bytes (4 * (i - 1) + 1);
+      repetition = wordAt bytes (4 * (i - 1) + 2);
+    }
+
+abbrev pub ageIn : List ℕ → ℕ → ℕ
+ageIn bytes i = wordAt bytes (4 * (i - 1) + 3)
+
+pub record BytesShow (s : Settings) (list bytes bytes′ : List ℕ) : Type 0 where
+  pub frames : (i : ℕ) → Between 1 (count list) i → FrameInRange s (frameIn bytes′ i)
+  pub ages : (i : ℕ) → Between 1 (count list) i → Age s (signalAt list i) (frameIn bytes′ i) (ageIn bytes′ i)
+  pub bytes-kept : (length bytes′ ≡ length bytes) × ((j : ℕ) → 16 * count list ≤ j → getD bytes′ j 0 ≡ getD bytes j 0)

@@ -37,15 +37,15 @@ use Rattle.promises.proofs.Demand3.{Ready, Sound, refused-exactly, acce
 -- ---- the promises, of an answer and of what was lent at exit
 
 -- demand 2 of a plan
-abbrev Promise2 : Settings → (list cells results : List ℕ) → Answer → (cells′ results′ : List ℕ) → Type 0
+abbrev pub Promise2 : Settings → (list cells results : List ℕ) → Answer → (cells′ results′ : List ℕ) → Type 0
 Promise2 s list cells results a cells′ results′ = numberOf a ≡ 0 → Shows s list cells results cells′ results′
 
 -- demand 3, "refused exactly when no collision-free table under the rule exists"
-abbrev RefusedExactly : Settings → List ℕ → Answer → Type 0
+abbrev pub RefusedExactly : Settings → List ℕ → Answer → Type 0
 RefusedExactly s list a = (numberOf a ≡ 0 → ⊥) ↔ ((R slot base : ℕ → ℕ) → Table s list R slot base → ⊥)
 
 -- demand 3, "uses the fewest slots of any"
-abbrev Fewest : Settings → List ℕ → Answer → Type 0
+abbrev pub Fewest : Settings → List ℕ → Answer → Type 0
 Fewest s list a =
     numberOf a ≡ 0 → (R slot base : ℕ → ℕ) → Table s list R slot base → placeOf a ≤ slotsUsed (s .slots) (count list) slot
 
@@ -55,7 +55,7 @@ promised-2 = accepted-shows
 
 module _ (s : Settings) (list cells results : List ℕ) (h : Ready s list cells results) where
   -- demand 3, "an accepted plan is one", and the number given is that of the slots with a nonzero cell
-  abbrev Promise3 : Answer → (cells′ results′ : List ℕ) → Type 0
+  abbrev pub Promise3 : Answer → (cells′ results′ : List ℕ) → Type 0
   Promise3 a cells′ results′ = numberOf a ≡ 0 → Sound s list cells results h a cells′ results′
 
   pub promised-3 : (a : Answer) (cells′ results′ : List ℕ) → Planned s list cells results a cells′ results′
@@ -158,7 +158,7 @@ invents-any-slots s list cells results h a a′ cells′ results′ planned z z�
 -- ---- a reader that refuses all books
 
 -- demand 2 of reading: of a book that some writing wrote, the values are given back
-abbrev ReadsBack : (book lent : List ℕ) → Reading → (back : List ℕ) → Type 0
+abbrev pub ReadsBack : (book lent : List ℕ) → Reading → (back : List ℕ) → Type 0
 ReadsBack book lent r back =
     (s : Settings) (list room : List ℕ) (a : Answer) (exit : List ℕ) →
     AreWords s →

@@ -52,13 +52,13 @@ word-in-front f n rest p h =
 module _ (s : Settings) (list results : List ℕ) (right : SettingsInRange s) (signals : EachSignal list (SignalInRange s)) (kept : EachSignal list (Kept s))
     (room : 16 * count list ≤ length results) (R : ℕ → ℕ) (found : Repetitions s list R) (fits : needed list R ≤ s .slots) (blank words : List ℕ)
     (shown : ResultsShow s list R (filled list R) blank words) where
-  seven : (i : ℕ) → Between 1 (count list) i → Repetition (R i)
+  pub seven : (i : ℕ) → Between 1 (count list) i → Repetition (R i)
   seven = kept-seven s list R kept found
 
-  abbrev front : List ℕ
+  abbrev pub front : List ℕ
   front = take (4 * count list) words
 
-  abbrev bytes : List ℕ
+  abbrev pub bytes : List ℕ
   bytes = bytesAfter front results
 
   long : length front ≡ 4 * count list
@@ -76,10 +76,10 @@ module _ (s : Settings) (list results : List ℕ) (right : SettingsInRange s) (s
       ∙ same
 
   -- the frame of a place
-  abbrev frameAt : Place → Frame
+  abbrev pub frameAt : Place → Frame
   frameAt p = record { slot = p .slot; repetition = R (p .signal); base = p .base }
 
-  place-framed : (p : Place) → List·Memᴰ p (filled list R) → FrameInRange s (frameAt p)
+  pub place-framed : (p : Place) → List·Memᴰ p (filled list R) → FrameInRange s (frameAt p)
   place-framed p m =
       let w = each-at (in-plan list R seven 256 0 0) m in
       record {
@@ -100,7 +100,7 @@ module _ (s : Settings) (list results : List ℕ) (right : SettingsInRange s) (s
       omega (arith, wait, age .reached .age, b .span-most, b .packing-most, b .slot-most)
 
   -- the bytes show the frame of a place, and its age
-  frame-shown : (p : Place) → List·Memᴰ p (filled list R) → frameIn bytes (p .signal) ≡ frameAt p
+  pub frame-shown : (p : Place) → List·Memᴰ p (filled list R) → frameIn bytes (p .signal) ≡ frameAt p
   frame-shown p m =
       let at = 4 * (p .signal - 1) in
       let own = filled-own list R seven p m in
@@ -147,7 +147,7 @@ module _ (s : Settings) (list results : List ℕ) (right : SettingsInRange s) (s
           ∙ ap (λ (i : ℕ). getD results i 0) back
 
 -- a refusal is never number 0
-not-refused : (s : Settings) (list : List ℕ) (bytes : ℕ) (a : Answer) → Refused (bookQuestions s list bytes) a → numberOf a ≡ 0 → ⊥
+pub not-refused : (s : Settings) (list : List ℕ) (bytes : ℕ) (a : Answer) → Refused (bookQuestions s list bytes) a → numberOf a ≡ 0 → ⊥
 not-refused s list bytes a (inl (f, (w, l, e))) z = omega (arith, ap numberOf e, z)
 not-refused s list bytes a (inr (h, inl (f, e))) z = omega (arith, ap numberOf e, z)
 not-refused s list bytes a (inr (h, inr (k, inl (f, (i, l, e))))) z = omega (arith, ap numberOf e, z)

@@ -11,6 +11,7 @@ pub mod PlaceLaws
 pub mod Demand1
 pub mod Demand2
 pub mod EditorShows
+pub mod EditorTables
 pub mod Named
 pub mod Shams
 pub mod NotVacuous

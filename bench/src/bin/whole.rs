@@ -55,12 +55,12 @@ fn books(folder: &Path) -> Result<()> {
     Ok(())
 }
 
-fn median(mut times: Vec<Duration>) -> f64 {
-    times.sort();
-    times[times.len() / 2].as_secs_f64() * 1e6
+/// The best of some times in microseconds: what else the machine does only adds to a time.
+fn best(times: &[Duration]) -> f64 {
+    times.iter().min().map_or(0.0, Duration::as_secs_f64) * 1e6
 }
 
-/// Both sides in turn, the one that goes first changing from round to round: the medians in microseconds.
+/// Both sides in turn, the one that goes first changing from round to round: the best of each in microseconds.
 fn in_turn(rounds: usize, mut library: impl FnMut(), mut twin: impl FnMut()) -> (f64, f64) {
     let timed = |work: &mut dyn FnMut()| {
         let start = Instant::now();
@@ -77,7 +77,7 @@ fn in_turn(rounds: usize, mut library: impl FnMut(), mut twin: impl FnMut()) -> 
             of_library.push(timed(&mut library));
         }
     }
-    (median(of_library), median(of_twin))
+    (best(&of_library), best(&of_twin))
 }
 
 /// A program from its start to its end, the book at its standard input.

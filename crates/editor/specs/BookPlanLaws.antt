@@ -1,5 +1,5 @@
 -- Laws of planning a book: how each outcome is shown from what reading and planning over words give.
-use mathlib.Core.Path.{_≡_, refl, _∙_, sym, ap, subst}
+use mathlib.Core.Path.{_≡_, refl, ap}
 use mathlib.Core.List.{List}
 use mathlib.Core.Logic.{inl, inr}
 use Prim.Native.Nat.{ℕ, _*_, _≤_, _<_}
@@ -7,7 +7,7 @@ use native.Mathlib.Omega.{arith}
 use lib.ListN.{length, take}
 use Rattle.terms.specs.declared.Settings.{Settings}
 use Rattle.terms.specs.declared.Answer.{Answer}
-use Rattle.terms.specs.declared.Answer.the-variants.{Done, Setting, Room}
+use Rattle.terms.specs.declared.Answer.the-variants.{Setting, Room}
 use Rattle.terms.specs.Answers.{numberOf}
 use Rattle.terms.specs.Ranges.{SettingsInRange, LowestOutOfRange}
 use Rattle.terms.specs.RangesLaws.{settings-refused}
@@ -18,7 +18,7 @@ use Rattle.planner.specs.AskedLaws.{refusal-number}
 use Rattle.planner.specs.Filled.{needed}
 use Rattle.planner.specs.Planned.{Planned}
 use Rattle.planner.specs.Planned.Planned.{refused as plan-refused, done as plan-done}
-use Rattle.editor.specs.BookPlan.{bookQuestions, BytesPlanned}
+use Rattle.editor.specs.BookPlan.{BytesPlanned}
 use Rattle.editor.specs.BookPlan.BytesPlanned.{refused, done}
 
 module _ (s : Settings) (list results : List ℕ) where

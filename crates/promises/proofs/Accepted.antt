@@ -3,20 +3,19 @@
 use mathlib.Core.Path.{_≡_, refl, _∙_, sym, ap, subst}
 use mathlib.Core.List.{List, List·Memᴰ}
 use mathlib.Core.Logic.{dite, ⊎-elim}
-use Prim.Native.Nat.{ℕ, zero, suc, _+_, _*_, _-_, _≤_, _<_, min}
-use native.Mathlib.Decide.{ℕ-discrete, decLe}
-use native.Mathlib.Nat.{add-sub-cancel-left, add-sub-of-le, lt-of-not-le, min-le-left, mul-comm}
+use Prim.Native.Nat.{ℕ, _+_, _*_, _-_, _≤_, _<_, min}
+use native.Mathlib.Decide.{decLe}
+use native.Mathlib.Nat.{add-sub-cancel-left, add-sub-of-le, lt-of-not-le, min-le-left}
 use native.Mathlib.Omega.{arith}
-use lib.ListN.{length, getD}
+use lib.ListN.{getD}
 use Rattle.terms.specs.declared.Settings.{Settings}
-use Rattle.terms.specs.declared.Frame.{Frame}
-use Rattle.terms.specs.Ranges.{Between, SettingsInRange, SignalInRange, Repetition}
+use Rattle.terms.specs.Ranges.{Between, SignalInRange, Repetition}
 use Rattle.terms.specs.RepetitionLaws.{repetition-positive, repetition-most}
 use Rattle.cycles.specs.Frames.{Names}
 use Rattle.filling.specs.Sums.{sum, same}
 use Rattle.filling.specs.SumLaws.{sum-le, sum-ext, sum-zero, sum-split, sum-const, same-cases, same-equal, same-apart}
 use Rattle.filling.specs.Plans.{planEnd}
-use Rattle.planner.specs.Lists.{count, signalAt, EachSignal, Kept, Repetitions}
+use Rattle.planner.specs.Lists.{count, signalAt, EachSignal, Kept}
 use Rattle.planner.specs.Filled.{Place, needed, filled}
 use Rattle.planner.specs.OnceLaws.{slots-needed}
 use Rattle.planner.specs.Planned.{Plan}

@@ -1,8 +1,8 @@
 -- Counting: a sum of numbers of which at most one is 1, and when a frame takes a cell.
 -- Assumes nothing.
-use mathlib.Core.Path.{_≡_, refl, _∙_, sym, ap, ap₂}
+use mathlib.Core.Path.{_≡_, sym, ap, ap₂}
 use mathlib.Core.Logic.{dite, ⊎-elim}
-use Prim.Native.Nat.{ℕ, zero, suc, _+_, _*_, _/_, _%_, _^_, _≤_, _<_}
+use Prim.Native.Nat.{ℕ, zero, suc, _*_, _/_, _%_, _^_, _≤_, _<_}
 use native.Mathlib.Decide.{ℕ-discrete, decLe}
 use native.Mathlib.Nat.{mod-add-div', suc-inj, le-of-suc-le-suc, eq-or-lt-of-le, lt-of-not-le}
 use native.Mathlib.Omega.{arith}
@@ -10,7 +10,7 @@ use Rattle.terms.specs.Ranges.{Repetition}
 use Rattle.cycles.specs.Frames.{Names}
 use Rattle.filling.specs.FrameWords.{exponent}
 use Rattle.filling.specs.FillLaws.{repetition-power}
-use Rattle.filling.specs.Sums.{sum, same}
+use Rattle.filling.specs.Sums.{sum}
 use Rattle.filling.specs.SumLaws.{sum-zero, same-cases}
 use Rattle.filling.specs.Rows.{takes}
 use Rattle.filling.specs.Tables.{Placed, cell}

@@ -3,7 +3,7 @@
 use mathlib.Core.Path.{_≡_, refl, _∙_, sym}
 use mathlib.Core.List.{List}
 use mathlib.Core.Logic.{dite}
-use Prim.Native.Nat.{ℕ, zero, suc, _+_, _*_, _/_, _≤_, _<_, min}
+use Prim.Native.Nat.{ℕ, zero, suc, _+_, _/_, _≤_, _<_}
 use native.Mathlib.Decide.{ℕ-discrete}
 use native.Mathlib.Nat.{min-le-left, le-div-iff-mul-le, div-mul-le-self, mul-le-mul-left}
 use native.Mathlib.Omega.{arith}
@@ -14,7 +14,7 @@ use Rattle.cycles.specs.Loads.{slotsFor}
 use Rattle.filling.specs.Sums.{sum, same}
 use Rattle.filling.specs.SumLaws.{sum-le, sum-const}
 use Rattle.filling.specs.Tables.{load}
-use Rattle.filling.specs.Units.{frames, ofUnit}
+use Rattle.filling.specs.Units.{ofUnit}
 use Rattle.filling.specs.UnitLaws.{units-bound}
 use Rattle.planner.specs.Lists.{count, signalAt, Repetitions}
 use Rattle.planner.specs.Filled.{needed, unitLoad}

@@ -1,10 +1,10 @@
 -- Any table as the list of its placed frames with their units, so that the theory of filling speaks of it.
 -- Assumes nothing.
-use mathlib.Core.Path.{_≡_, refl, _∙_, sym, ap, subst}
+use mathlib.Core.Path.{_≡_, _∙_, sym, ap, subst}
 use mathlib.Core.List.{List, [], _∷_}
 use mathlib.Core.Logic.{dite}
-use Prim.Native.Nat.{ℕ, zero, suc, _+_, _*_, _/_, _%_, _^_, _≤_, _<_, min}
-use native.Mathlib.Nat.{add-zero, add-suc, suc-add, zero-add, add-comm}
+use Prim.Native.Nat.{ℕ, zero, suc, _+_, _/_, _≤_, _<_, min}
+use native.Mathlib.Nat.{add-zero, add-suc, suc-add, zero-add}
 use native.Mathlib.Numerals.{add-one}
 use native.Mathlib.Decide.{ℕ-discrete}
 use native.Mathlib.Omega.{arith}
@@ -17,9 +17,9 @@ use Rattle.cycles.specs.Frames.{Names}
 use Rattle.filling.specs.FrameWords.{exponent}
 use Rattle.filling.specs.FillLaws.{repetition-power, exponent-most}
 use Rattle.filling.specs.Sums.{sum, total, same}
-use Rattle.filling.specs.SumLaws.{sum-first, sum-zero, sum-ext, same-cases, same-equal, same-apart}
-use Rattle.filling.specs.Rows.{share, takes, orElse}
-use Rattle.filling.specs.Tables.{Placed, Each, Valid, cell, cells, load, used}
+use Rattle.filling.specs.SumLaws.{sum-first, sum-zero, sum-ext}
+use Rattle.filling.specs.Rows.{share, orElse}
+use Rattle.filling.specs.Tables.{Placed, Each, Valid, cell, load, used}
 use Rattle.filling.specs.Tables as tables
 use Rattle.filling.specs.Tables.Each.{empty, entry}
 use Rattle.filling.specs.TableLaws.{each-apart}

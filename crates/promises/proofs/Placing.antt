@@ -4,7 +4,7 @@
 use mathlib.Core.Path.{_≡_, refl, _∙_, sym, ap, subst}
 use mathlib.Core.List.{List, [], _∷_, _++_, List·Memᴰ, List·Memᴰ·head, List·Memᴰ·tail, List·Memᴰ·not-nil, List·Memᴰ·append-cases, Memᴰ·append-left, Memᴰ·append-right}
 use mathlib.Core.Logic.{dite, ⊎-elim}
-use Prim.Native.Nat.{ℕ, zero, suc, _+_, _^_, _≤_, _<_}
+use Prim.Native.Nat.{ℕ, zero, suc, _+_, _≤_, _<_}
 use native.Mathlib.Decide.{ℕ-discrete}
 use native.Mathlib.Nat.{eq-or-lt-of-le}
 use lib.Arith.{lt-of-le-ne}
@@ -18,7 +18,7 @@ use Rattle.filling.specs.Ordered.{ordered}
 use Rattle.filling.specs.OrderedLaws.{members-ordered}
 use Rattle.filling.specs.Plans.{last, planEnd}
 use Rattle.filling.specs.Runs.{State, start, run, placed, after}
-use Rattle.filling.specs.Tables.{Placed, Each, Valid}
+use Rattle.filling.specs.Tables.{Each, Valid}
 use Rattle.filling.specs.Tables.Each.{empty, entry}
 use Rattle.filling.specs.TableLaws.{each-both, each-map}
 use Rattle.planner.specs.Lists.{count, signalAt}

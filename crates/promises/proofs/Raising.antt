@@ -2,14 +2,14 @@
 -- Assumes nothing.
 use mathlib.Core.Path.{_≡_, sym, ap, subst₂}
 use mathlib.Core.List.{List}
-use Prim.Native.Nat.{ℕ, _+_, _*_, _/_, _≤_, _<_}
+use Prim.Native.Nat.{ℕ, _/_, _≤_, _<_}
 use native.Mathlib.Omega.{arith}
 use Rattle.terms.specs.declared.Settings.{Settings}
 use Rattle.terms.specs.declared.Signal.{Signal}
 use Rattle.terms.specs.Ranges.{Between, SignalInRange}
 use Rattle.terms.specs.RepetitionLaws.{repetition-positive}
 use Rattle.age.specs.Age.{IsAge, firstStart, spanOf}
-use Rattle.rule.specs.Rule.{Keeps, segment, Largest}
+use Rattle.rule.specs.Rule.{Keeps, segment}
 use Rattle.rule.specs.RuleLaws.{largest-grows, frame}
 use Rattle.cycles.specs.Loads.{slotsFor}
 use Rattle.filling.specs.SumLaws.{sum-le}

@@ -1,7 +1,7 @@
 -- A table for ANY repetitions, slots and bases, not the planner's own, and how many slots it uses.
 use mathlib.Core.Path.{_≡_}
 use mathlib.Core.List.{List}
-use Prim.Native.Nat.{ℕ, _+_, _*_, _≤_, _<_, min}
+use Prim.Native.Nat.{ℕ, _+_, _*_, _<_, min}
 use lib.ListN.{getD}
 use Rattle.terms.specs.declared.Settings.{Settings}
 use Rattle.terms.specs.Ranges.{Between, Repetition}

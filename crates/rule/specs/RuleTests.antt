@@ -1,9 +1,9 @@
 -- The rule as tests that antt computes: the longest wait at each slot and base, by the formula.
 -- Assumes nothing.
-use mathlib.Core.Path.{_≡_, refl, sym, subst}
+use mathlib.Core.Path.{refl}
 use mathlib.Core.Bool.{Bool, not}
 use mathlib.Core.Logic.{dite}
-use Prim.Native.Nat.{ℕ, zero, suc, _+_, _*_, _-_, _/_, _%_, _≤_, _<_}
+use Prim.Native.Nat.{ℕ, zero, suc, _+_, _*_, _-_, _%_, _≤_, _<_}
 use native.Mathlib.Decide.{decLe}
 use native.Mathlib.Nat.{mod-lt, lt-of-not-le}
 use native.Mathlib.Omega.{arith}

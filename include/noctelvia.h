@@ -14,6 +14,17 @@
  *
  *     uint32_t r = noctelvia_repetition(2500, 16, 93, 100, 8,   3, 10000, 2000, 16, 10000);
  *     uint32_t a = noctelvia_age(2500, 16, 93, 100, 8,   3, 10000, 2000, 16, 10000,   7, r, 0);
+ *
+ * Example: a book of one signal, made and planned. Its result is 16 bytes: slot, base, repetition, age.
+ *
+ *     uint32_t list[5] = {3, 10000, 2000, 16, 10000};
+ *     uint8_t book[1024], results[16];
+ *     uint64_t made = noctelvia_write(2500, 16, 93, 100, 8, list, 5, book, sizeof book);
+ *     uint64_t plan = noctelvia_plan(book, 512 * NOCTELVIA_PLACE(made), results, sizeof results);
+ *     if (NOCTELVIA_NUMBER(plan) == NOCTELVIA_DONE)
+ *         printf("%u slots\n", (unsigned)NOCTELVIA_PLACE(plan));
+ *     else
+ *         printf("refused with %u at %u\n", (unsigned)NOCTELVIA_NUMBER(plan), (unsigned)NOCTELVIA_PLACE(plan));
  */
 #ifndef NOCTELVIA_H
 #define NOCTELVIA_H

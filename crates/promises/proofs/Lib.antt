@@ -15,3 +15,4 @@ pub mod EditorTables
 pub mod Named
 pub mod Shams
 pub mod NotVacuous
+pub mod Examples

@@ -1,5 +1,5 @@
--- For each definition that the three demands rest on, one thing that satisfies it and one that does not, most of them from
--- "Examples with numbers"; so no promise holds for want of anything to speak of.
+-- Of what the three demands rest on, one thing that satisfies it and one that does not, most of them from "Examples with
+-- numbers"; so no promise holds for want of anything to speak of. `Examples` has the smaller definitions.
 -- Assumes nothing.
 use mathlib.Core.Path.{_≡_, refl, _∙_, sym, ap, subst}
 use mathlib.Core.Bool.{true, true≢false}

@@ -1,5 +1,4 @@
--- Demand 1: "Every list, setting and book gets a plan or a numbered refusal; nobody checks beforehand; a refusal changes
--- no lent cell or byte." Of any outcome that the contracts allow, for all inputs.
+-- Every routine keeps demand 1: planning over words, a list from C, a book from the editor, reading and writing.
 -- Assumes nothing.
 use mathlib.Core.Path.{_≡_, refl, _∙_, sym, ap, subst}
 use mathlib.Core.Bool.{Bool, true, false}
@@ -13,7 +12,7 @@ use lib.ListN.{length}
 use borrow.Author.Tests.{ne-eqb}
 use Rattle.terms.specs.declared.Settings.{Settings}
 use Rattle.terms.specs.declared.Answer.{Answer}
-use Rattle.terms.specs.Answers.{numberOf, placeOf}
+use Rattle.terms.specs.Answers.{numberOf, placeOf, packedOf}
 use Rattle.terms.specs.Ranges.{FirstFailing, LowestOutOfRange}
 use Rattle.planner.specs.Lists.{CountInRange, count}
 use Rattle.planner.specs.Asked.{Refused, questions}
@@ -21,198 +20,260 @@ use Rattle.planner.specs.Filled.{needed}
 use Rattle.planner.specs.Planned.{Planned}
 use Rattle.planner.specs.Planned.Planned.{refused, done}
 use Rattle.book.specs.declared.Reading.{Reading}
-use Rattle.book.specs.Blocks.{blocksFor, writeAnswer}
-use Rattle.book.specs.Reading.{signalsOf, sound, readAnswer, fiveZeros, settingsIn, listIn}
+use Rattle.book.specs.Blocks.{blocksFor, writeAnswer, roomAfter}
+use Rattle.book.specs.Reading.{signalsOf, sound, readAnswer, fiveZeros, settingsIn, listIn, settingsOf, settingsGiven, listAfter}
 use Rattle.book.specs.Outcomes.{ReadOutcome, WriteOutcome}
-use Rattle.book.proofs.AnswerLaws.{read-refused, read-short, read-done, write-refusal, write-uneven, write-many, write-short, write-done}
+use Rattle.book.proofs.AnswerLaws.{settings-none, read-refused, read-short, read-done, write-refusal, write-uneven, write-many, write-short, write-done}
 use Rattle.book.proofs.ReadLaws.{read-keeps}
+use Rattle.editor.specs.Answered.{PlanAnswered, ReadAnswered, WriteAnswered}
+use Rattle.editor.specs.Words.{settingAt}
 use Rattle.editor.specs.BookPlan.{BytesPlanned, BookPlanned, BookAnswered}
 use Rattle.editor.specs.BookPlan.BytesPlanned.{refused as bytes-refused, done as bytes-done}
 use Rattle.editor.specs.BookPlan.BookPlanned.{unread, planned as read-planned}
-use Rattle.promises.specs.Rows.{FirstRow, asked, Needed, planningRows, lentRow, readingRows, writingRows, bytesRows, editorRows}
-use Rattle.promises.proofs.PlaceLaws.{book-place, packed-halves}
-use Rattle.promises.proofs.RowLaws.{one-of, exactly, signal-row, unsound-row, sound-row}
+use Rattle.promises.specs.Calls.{Request, PlanRoom, Return, Routine, Always, Tells, Plans, PlansList, PlansBook, Reads, wordByWord, ReadsFromC, Writes, WritesFromC}
+use Rattle.promises.specs.Rows.{Row, FirstRow, Needed, planningRows, roomRow, bookRows, readingRows, writingRows, bytesRows, editorRows}
+use Rattle.promises.specs.Demand1.{Demand1, Demand1Planning, Demand1Reading, Demand1Writing, Demand1Editor, ZerosRefused}
+use Rattle.promises.proofs.Every.{planned-exists, book-planned-exists}
+use Rattle.promises.proofs.PlaceLaws.{comes-apart, planning-small, writing-small, reading-small, editor-small}
+use Rattle.promises.proofs.RowLaws.{signal-row, pass, sound-rows, unsound-row}
 
 -- ---- planning
 
-refusal-row : (s : Settings) (list : List ℕ) (cells results : ℕ) (a : Answer) → Refused (questions s list cells results (needed list)) a
-    → FirstRow (planningRows s list cells results) (Needed s list) (numberOf a) (placeOf a)
-refusal-row s list cells results a (inl (f, (w, l, e))) = inl (f, ap numberOf e, subst (LowestOutOfRange s) (sym (ap placeOf e)) l)
-refusal-row s list cells results a (inr (h, inl (f, e))) = inr (h, inl (f, ap numberOf e, ap placeOf e))
-refusal-row s list cells results a (inr (h, inr (k, inl (f, e)))) =
-    inr (h, inr (k, inl ((λ room. f (room .0)), ap numberOf e, inl (lt-of-not-le f, ap placeOf e))))
-refusal-row s list cells results a (inr (h, inr (k, inr (l, inl (f, e))))) =
-    inr (h, inr (k, inl ((λ room. f (room .1)), ap numberOf e, inr (l, ap placeOf e))))
-refusal-row s list cells results a (inr (h, inr (k, inr (l, inr (m, r))))) = inr (h, inr (k, inr ((l, m), signal-row s list (Needed s list) a r)))
+module _ (x : Request) (l : PlanRoom) where
+  refusal-row : (a : Answer) → Refused (questions (x .settings) (x .list) (length (l .cells)) (length (l .results)) (needed (x .list))) a
+      → FirstRow (planningRows x l) (Needed (x .settings) (x .list)) (numberOf a) (placeOf a)
+  refusal-row a (inl (f, (w, k, e))) = inl (f, ap numberOf e, subst (LowestOutOfRange (x .settings)) (sym (ap placeOf e)) k)
+  refusal-row a (inr (h, inl (f, e))) = inr (h, inl (f, ap numberOf e, ap placeOf e))
+  refusal-row a (inr (h, inr (k, inl (f, e)))) = inr (h, inr (k, inl (f, ap numberOf e, ap placeOf e)))
+  refusal-row a (inr (h, inr (k, inr (c, inl (f, e))))) = inr (h, inr (k, inr (c, inl (f, ap numberOf e, ap placeOf e))))
+  refusal-row a (inr (h, inr (k, inr (c, inr (r, rest))))) =
+      inr (h, inr (k, inr (c, inr (r, signal-row (x .settings) (x .list) (Needed (x .settings) (x .list)) a rest))))
 
--- the number and the place are those of the first row that does not hold; 0 and the slots used where all hold
-pub planning-row : (s : Settings) (list cells results : List ℕ) (a : Answer) (cells′ results′ : List ℕ) → Planned s list cells results a cells′ results′
-    → FirstRow (planningRows s list (length cells) (length results)) (Needed s list) (numberOf a) (placeOf a)
-planning-row s list cells results a cells′ results′ (refused r) = refusal-row s list (length cells) (length results) a r
-planning-row s list cells results a cells′ results′ (done R p plan) =
-    let signals = p .1 .1 .1 .1 in
-    inr (p .0, inr (p .1 .0, inr ((p .1 .1 .0, p .1 .1 .1 .0), inr (signals .0, inr (signals .1 .0, inr (signals .1 .1 .0, (refl, (R, plan .repetitions, refl))))))))
+  planned-row : (a : Answer) (cells results : List ℕ) → Planned (x .settings) (x .list) (l .cells) (l .results) a cells results
+      → FirstRow (planningRows x l) (Needed (x .settings) (x .list)) (numberOf a) (placeOf a)
+  planned-row a cells results (refused r) = refusal-row a r
+  planned-row a cells results (done R p plan) =
+      let signals = p .1 .1 .1 .1 in
+      inr (
+        p .0,
+        inr (
+          p .1 .0,
+          inr (
+            p .1 .1 .0,
+            inr (
+              p .1 .1 .1 .0,
+              inr (signals .0, inr (signals .1 .0, inr (signals .1 .1 .0, (refl, (R, plan .repetitions, refl))))),
+            ),
+          ),
+        ),
+      )
 
--- a refusal changes no lent cell and no lent word
-planning-kept : (s : Settings) (list cells results : List ℕ) (a : Answer) (cells′ results′ : List ℕ) → Planned s list cells results a cells′ results′
-    → (numberOf a ≡ 0) ⊎ ((cells′ ≡ cells) × (results′ ≡ results))
-planning-kept s list cells results a cells′ results′ (refused r) = inr (refl, refl)
-planning-kept s list cells results a cells′ results′ (done R p plan) = inl refl
+  planned-kept : (a : Answer) (cells results : List ℕ) → Planned (x .settings) (x .list) (l .cells) (l .results) a cells results
+      → (numberOf a ≡ 0 → ⊥) → (cells ≡ l .cells) × (results ≡ l .results)
+  planned-kept a cells results (refused r) n = (refl, refl)
+  planned-kept a cells results (done R p plan) n = absurd (n refl)
 
-module _
-    (s : Settings)
-    (list cells results : List ℕ)
-    (a : Answer)
-    (cells′ results′ : List ℕ)
-    (planned : Planned s list cells results a cells′ results′)
-  where
-    -- each number exactly when its row says
-    pub planning-exactly : (n : ℕ) → (numberOf a ≡ n) ↔ FirstFailing (asked (planningRows s list (length cells) (length results))) n
-    planning-exactly =
-        exactly (Needed s list) (numberOf a) (placeOf a) (planningRows s list (length cells) (length results))
-        (planning-row s list cells results a cells′ results′ planned)
+-- the number and the place of an answer stand in a row where those of a return do
+told : {Room : Type 0} (rows : List Row) (d : ℕ → Type 0) (a : Answer) (y : Return Room) → Tells a y
+    → FirstRow rows d (numberOf a) (placeOf a) → FirstRow rows d (y .number) (y .place)
+told rows d a y t row =
+    subst (λ (n : ℕ). FirstRow rows d n (y .place)) (sym (t .0)) (subst (FirstRow rows d (numberOf a)) (sym (t .1)) row)
 
-    -- a plan or a numbered refusal, which changes nothing that was lent
-    pub planning : (numberOf a ≡ 0) ⊎ (List·Memᴰ (numberOf a) (6 ∷ 4 ∷ 10 ∷ 7 ∷ 8 ∷ 9 ∷ []) × (cells′ ≡ cells) × (results′ ≡ results))
-    planning =
-        ⊎-elim inl
-        (λ m. ⊎-elim inl (λ k. inr (m, k .0, k .1)) (planning-kept s list cells results a cells′ results′ planned))
-        (one-of (Needed s list) (numberOf a) (placeOf a) (planningRows s list (length cells) (length results))
-        (planning-row s list cells results a cells′ results′ planned))
+-- what gives less keeps demand 1 too, if it gives something
+narrower : {Asked Room : Type 0} (rows : Asked → Room → List Row) (d : Asked → ℕ → Type 0) (G H : Routine Asked Room)
+    → Always H G → ((x : Asked) (l : Room) → (y : Return Room) × H x l y)
+    → Demand1 rows d G → Demand1 rows d H
+narrower rows d G H within some g =
+    record {
+      every = some;
+      numbered = λ x l y h. g .numbered x l y (within x l y h);
+      unchanged = λ x l y h. g .unchanged x l y (within x l y h);
+    }
 
-    pub never-eleven : numberOf a ≡ 11 → ⊥
-    never-eleven e = never (planning-exactly 11 .0 e)
-      where
-        never : FirstFailing (asked (planningRows s list (length cells) (length results))) 11 → ⊥
-        never (inl (f, e)) = omega (arith, e)
-        never (inr (h, inl (f, e))) = omega (arith, e)
-        never (inr (h, inr (k, inl (f, e)))) = omega (arith, e)
-        never (inr (h, inr (k, inr (l, inl (f, e))))) = omega (arith, e)
-        never (inr (h, inr (k, inr (l, inr (m, inl (f, e)))))) = omega (arith, e)
-        never (inr (h, inr (k, inr (l, inr (m, inr (n, inl (f, e))))))) = omega (arith, e)
-        never (inr (h, inr (k, inr (l, inr (m, inr (n, inr (o, e))))))) = omega (arith, e)
+pub plan-1 : Demand1Planning Plans
+plan-1 =
+    record {
+      every = λ x l.
+          let p = planned-exists (x .settings) (x .list) (l .cells) (l .results) in
+          (record { number = numberOf (p .0); place = placeOf (p .0); lent = record { cells = p .1; results = p .2 } }, (p .0, p .3, (refl, refl)));
+      numbered = λ x l y p. told (planningRows x l) (Needed (x .settings) (x .list)) (p .0) y (p .2) (planned-row x l (p .0) (y .lent .cells) (y .lent .results) (p .1));
+      unchanged = λ x l y p n.
+          let kept = planned-kept x l (p .0) (y .lent .cells) (y .lent .results) (p .1) (λ z. n (p .2 .0 ∙ z)) in
+          λ i. record { cells = kept .0 i; results = kept .1 i };
+    }
+
+-- what a C caller has of a 64-bit answer and of what was lent
+abbrev apart : {Room : Type 0} → ℕ → Room → Return Room
+apart r lent = record { number = r / 4294967296; place = r % 4294967296; lent = lent }
+
+-- the C call gives what planning gives
+pub list-plans : Always PlansList Plans
+list-plans x l y (r, p, h) =
+    let small = planning-small x l (numberOf (p .given)) (placeOf (p .given)) (planned-row x l (p .given) (y .lent .cells) (y .lent .results) (p .planned)) in
+    (p .given, p .planned, comes-apart (p .given) r y small (p .answer) h)
+
+pub plan-list-1 : Demand1Planning PlansList
+plan-list-1 = narrower planningRows (λ x. Needed (x .settings) (x .list)) Plans PlansList list-plans
+    (λ x l.
+    let p = planned-exists (x .settings) (x .list) (l .cells) (l .results) in
+    (apart (packedOf (p .0)) (record { cells = p .1; results = p .2 }), (packedOf (p .0), record { given = p .0; planned = p .3; answer = refl }, (refl, refl))))
+    plan-1
+
+-- ---- a book from the editor
+
+bytes-row : (l : List ℕ) (s : Settings) (list : List ℕ) (a : Answer) (exit : List ℕ) → BytesPlanned s list l a exit
+    → FirstRow (bytesRows s list l) (Needed s list) (numberOf a) (placeOf a)
+bytes-row l s list a exit (bytes-refused (inl (f, (w, k, e)))) = inl (f, ap numberOf e, subst (LowestOutOfRange s) (sym (ap placeOf e)) k)
+bytes-row l s list a exit (bytes-refused (inr (h, inl (f, e)))) = inr (h, inl (f, ap numberOf e, ap placeOf e))
+bytes-row l s list a exit (bytes-refused (inr (h, inr (k, r)))) = inr (h, inr (k, signal-row s list (Needed s list) a r))
+bytes-row l s list a exit (bytes-done R p found shown) =
+    let signals = p .1 .1 in
+    inr (p .0, inr (p .1 .0, inr (signals .0, inr (signals .1 .0, inr (signals .1 .1 .0, (refl, (R, found, refl)))))))
+
+bytes-kept : (l : List ℕ) (s : Settings) (list : List ℕ) (a : Answer) (exit : List ℕ) → BytesPlanned s list l a exit → (numberOf a ≡ 0 → ⊥) → exit ≡ l
+bytes-kept l s list a exit (bytes-refused r) n = refl
+bytes-kept l s list a exit (bytes-done R p found shown) n = absurd (n refl)
+
+module _ (book l : List ℕ) where
+  abbrev bookDone : ℕ → Type 0
+  bookDone = Needed (settingsIn book) (listIn book)
+
+  book-row : (a : Answer) (exit : List ℕ) → BookPlanned book l a exit → FirstRow (editorRows book l) bookDone (numberOf a) (placeOf a)
+  book-row a exit (unread h) = unsound-row book (bytesRows (settingsIn book) (listIn book) l) bookDone h
+  book-row a exit (read-planned h p) =
+      pass (bytesRows (settingsIn book) (listIn book) l) bookDone (numberOf a) (placeOf a) (bookRows book) (sound-rows book h)
+      (bytes-row l (settingsIn book) (listIn book) a exit p)
+
+  book-kept : (a : Answer) (exit : List ℕ) → BookPlanned book l a exit → (numberOf a ≡ 0 → ⊥) → exit ≡ l
+  book-kept a exit (unread h) n = refl
+  book-kept a exit (read-planned h p) n = bytes-kept l (settingsIn book) (listIn book) a exit p n
+
+  -- the answer that the 64 bits hold
+  pub book-plans : (y : Return (List ℕ)) → PlansBook book l y
+      → (a : Answer) × BookPlanned book l a (y .lent) × Tells a y
+  book-plans y (r, p, h) =
+      let small = editor-small book l (numberOf (p .given)) (placeOf (p .given)) (book-row (p .given) (y .lent) (p .plan)) in
+      (p .given, p .plan, comes-apart (p .given) r y small (p .answer) h)
+
+pub plan-book-1 : Demand1Editor PlansBook
+plan-book-1 =
+    record {
+      every = λ book l.
+          let p = book-planned-exists book l in
+          (apart (packedOf (p .0)) (p .1), (packedOf (p .0), record { given = p .0; plan = p .2; answer = refl }, (refl, refl)));
+      numbered = λ book l y p.
+          let q = book-plans book l y p in
+          told (editorRows book l) (bookDone book l) (q .0) y (q .2) (book-row book l (q .0) (y .lent) (q .1));
+      unchanged = λ book l y p n. let q = book-plans book l y p in book-kept book l (q .0) (y .lent) (q .1) (λ z. n (q .2 .0 ∙ z));
+    }
 
 -- ---- reading
 
-abbrev ReadingRow : List ℕ → (room : ℕ) → Answer → Type 0
-ReadingRow book room a = FirstRow (readingRows book room) (λ p. p ≡ signalsOf book) (numberOf a) (placeOf a)
+abbrev ReadingRow : (book l : List ℕ) → Answer → Type 0
+ReadingRow book l a = FirstRow (readingRows book l) (λ p. p ≡ signalsOf book) (numberOf a) (placeOf a)
 
-read-row : (book lent : List ℕ) (t : Bool) → sound book ≡ t → ReadingRow book (length lent) (readAnswer book (length lent))
-read-row book lent false h =
-    subst (ReadingRow book (length lent)) (read-refused book lent h) (unsound-row book (lentRow book (length lent) ∷ []) (λ p. p ≡ signalsOf book) h)
-read-row book lent true h =
-    let row = sound-row book (lentRow book (length lent) ∷ []) (λ p. p ≡ signalsOf book) in
-    dite (decLe (5 * signalsOf book) (length lent))
-    (λ l. subst (ReadingRow book (length lent)) (read-done book lent h l) (row 0 (signalsOf book) h (inr (l, (refl, refl)))))
-    (λ n. subst (ReadingRow book (length lent)) (read-short book lent h (lt-of-not-le n)) (row 10 (5 * signalsOf book) h (inl (n, refl, refl))))
+read-row : (book l : List ℕ) (t : Bool) → sound book ≡ t → ReadingRow book l (readAnswer book (length l))
+read-row book l false h =
+    subst (ReadingRow book l) (read-refused book l h)
+    (unsound-row book (roomRow (5 * signalsOf book) (length l) ∷ []) (λ p. p ≡ signalsOf book) h)
+read-row book l true h =
+    let row : (n p : ℕ) → FirstRow (roomRow (5 * signalsOf book) (length l) ∷ []) (λ p. p ≡ signalsOf book) n p
+    → FirstRow (readingRows book l) (λ p. p ≡ signalsOf book) n p =
+    λ n p. pass (roomRow (5 * signalsOf book) (length l) ∷ []) (λ p. p ≡ signalsOf book) n p (bookRows book) (sound-rows book h) in
+    dite (decLe (5 * signalsOf book) (length l))
+    (λ k. subst (ReadingRow book l) (read-done book l h k) (row 0 (signalsOf book) (inr (k, (refl, refl)))))
+    (λ n. subst (ReadingRow book l) (read-short book l h (lt-of-not-le n)) (row 10 (5 * signalsOf book) (inl (n, refl, refl))))
 
-module _ (book lent : List ℕ) (r : Reading) (exit : List ℕ) (read : ReadOutcome book lent r exit) where
-  -- the number and the place; 0 and the signals where all rows hold
-  pub reading-row : FirstRow (readingRows book (length lent)) (λ p. p ≡ signalsOf book) (numberOf (r .answer)) (placeOf (r .answer))
-  reading-row = subst (ReadingRow book (length lent)) (sym (read .answer)) (read-row book lent (sound book) refl)
+module _ (book l : List ℕ) (s : Settings) (y : Return (List ℕ)) where
+  reading-row : Reads s book l y → FirstRow (readingRows book l) (λ p. p ≡ signalsOf book) (y .number) (y .place)
+  reading-row (r, read, e, t) =
+      told (readingRows book l) (λ p. p ≡ signalsOf book) (r .answer) y t
+      (subst (ReadingRow book l) (sym (read .answer)) (read-row book l (sound book) refl))
 
-  pub reading-exactly : (n : ℕ) → (numberOf (r .answer) ≡ n) ↔ FirstFailing (asked (readingRows book (length lent))) n
-  reading-exactly = exactly (λ p. p ≡ signalsOf book) (numberOf (r .answer)) (placeOf (r .answer)) (readingRows book (length lent)) reading-row
+  -- "a refusal gives five zeros", and changes no word of the lent list
+  reading-kept : Reads s book l y → (y .number ≡ 0 → ⊥) → (s ≡ fiveZeros) × (y .lent ≡ l)
+  reading-kept (r, read, e, t) n = let kept = read-keeps read (λ z. n (t .0 ∙ z)) in (e ∙ kept .0, kept .1)
 
-  -- the values or a numbered refusal; a refusal changes no word of the lent list, and gives five zeros
-  pub reading : (numberOf (r .answer) ≡ 0)
-      ⊎ (List·Memᴰ (numberOf (r .answer)) (1 ∷ 2 ∷ 3 ∷ 4 ∷ 5 ∷ 10 ∷ []) × (r .settings ≡ fiveZeros) × (exit ≡ lent))
-  reading =
-      dite (ℕ-discrete (numberOf (r .answer)) 0) inl
-      (λ n.
-      ⊎-elim inl (λ m. let kept = read-keeps read n in inr (m, kept .0, kept .1))
-      (one-of (λ p. p ≡ signalsOf book) (numberOf (r .answer)) (placeOf (r .answer)) (readingRows book (length lent)) reading-row))
+  -- the C calls give what reading gives, but for the settings where it refuses
+  pub c-reads : ReadsFromC s book l y → (q : Settings) × Reads q book l y
+  c-reads (r, read, e, h) =
+      let small = reading-small book l (numberOf (readAnswer book (length l))) (placeOf (readAnswer book (length l))) (read-row book l (sound book) refl) in
+      let given : Reading = record { answer = readAnswer book (length l); settings = settingsGiven book (length l) } in (
+        given .settings,
+        (given, record { answer = refl; settings = refl; list = read .list }, refl, comes-apart (given .answer) r y small (read .answer) h),
+      )
+
+pub read-1 : Demand1Reading Reads
+read-1 =
+    record {
+      every = λ book l.
+          let a = readAnswer book (length l) in
+          let given : Reading = record { answer = a; settings = settingsGiven book (length l) } in (
+            record { number = numberOf a; place = placeOf a; lent = listAfter book l },
+            (given .settings, (given, record { answer = refl; settings = refl; list = refl }, refl, (refl, refl))),
+          );
+      numbered = λ book l y p. reading-row book l (p .0) y (p .1);
+      unchanged = λ book l y p n. reading-kept book l (p .0) y (p .1) n .1;
+    }
+
+pub read-zeros : ZerosRefused Reads
+read-zeros s book l y p n = reading-kept book l s y p n .0
+
+-- from C the settings are those of a sound book, and else five zeros
+pub read-c-zeros : (s : Settings) → Always (ReadsFromC s) (λ book l y. sound book ≡ false → s ≡ fiveZeros)
+read-c-zeros s book l y p h = p .2 ∙ settings-none book h
+
+pub read-c-1 : Demand1Reading ReadsFromC
+read-c-1 =
+    narrower readingRows (λ book p. p ≡ signalsOf book) (λ book l y. (s : Settings) × Reads s book l y) (λ book l y. (s : Settings) × ReadsFromC s book l y)
+    (λ book l y p. c-reads book l (p .0) y (p .1))
+    (λ book l. let r = packedOf (readAnswer book (length l)) in (
+      apart r (listAfter book l),
+      (wordByWord (settingAt (settingsOf book)), (r, record { answer = refl; list = refl }, refl, (refl, refl))),
+    ))
+    read-1
 
 -- ---- writing
 
-abbrev WritingRow : List ℕ → (room : ℕ) → Answer → Type 0
-WritingRow list room a = FirstRow (writingRows list room) (λ p. p ≡ blocksFor (count list)) (numberOf a) (placeOf a)
+abbrev WritingRow : Request → (l : List ℕ) → Answer → Type 0
+WritingRow x l a = FirstRow (writingRows x l) (λ p. p ≡ blocksFor (count (x .list))) (numberOf a) (placeOf a)
 
-write-row : (s : Settings) (list room : List ℕ) → WritingRow list (length room) (writeAnswer list (length room))
-write-row s list room =
+write-row : (x : Request) (l : List ℕ) → WritingRow x l (writeAnswer (x .list) (length l))
+write-row x l =
+    let s = x .settings in
+    let list = x .list in
     dite (ℕ-discrete (length list % 5) 0)
     (λ whole.
     dite (decLe (length list / 5) 600)
     (λ few.
     let right : CountInRange list = record { whole = whole; few = omega arith } in
-    dite (decLe (512 * blocksFor (count list)) (length room))
-    (λ l. subst (WritingRow list (length room)) (write-done s list room whole few l) (inr (right, inr (l, (refl, refl)))))
-    (λ n. subst (WritingRow list (length room)) (write-short s list room whole few (lt-of-not-le n)) (inr (right, inl (n, refl, refl)))))
-    (λ n.
-    subst (WritingRow list (length room)) (write-many s list room whole (lt-of-not-le n)) (inl ((λ right. n (omega (arith, right .few))), refl, refl))))
-    (λ n. subst (WritingRow list (length room)) (write-uneven s list room n) (inl ((λ right. n (right .whole)), refl, refl)))
+    dite (decLe (512 * blocksFor (count list)) (length l))
+    (λ k. subst (WritingRow x l) (write-done s list l whole few k) (inr (right, inr (k, (refl, refl)))))
+    (λ n. subst (WritingRow x l) (write-short s list l whole few (lt-of-not-le n)) (inr (right, inl (n, refl, refl)))))
+    (λ n. subst (WritingRow x l) (write-many s list l whole (lt-of-not-le n)) (inl ((λ right. n (omega (arith, right .few))), refl, refl))))
+    (λ n. subst (WritingRow x l) (write-uneven s list l n) (inl ((λ right. n (right .whole)), refl, refl)))
 
-module _ (s : Settings) (list room : List ℕ) (a : Answer) (exit : List ℕ) (written : WriteOutcome s list room a exit) where
-  -- the number and the place; 0 and the blocks where all rows hold
-  pub writing-row : FirstRow (writingRows list (length room)) (λ p. p ≡ blocksFor (count list)) (numberOf a) (placeOf a)
-  writing-row = subst (WritingRow list (length room)) (sym (written .answer)) (write-row s list room)
+pub write-1 : Demand1Writing Writes
+write-1 =
+    record {
+      every = λ x l.
+          let a = writeAnswer (x .list) (length l) in
+          (record { number = numberOf a; place = placeOf a; lent = roomAfter (x .settings) (x .list) l }, (a, record { answer = refl; room = refl }, (refl, refl)));
+      numbered = λ x l y p.
+          told (writingRows x l) (λ p. p ≡ blocksFor (count (x .list))) (p .0) y (p .2) (subst (WritingRow x l) (sym (p .1 .answer)) (write-row x l));
+      unchanged = λ x l y p n.
+          p .1 .room
+          ∙ sym (write-refusal (x .settings) (x .list) l (p .0) (p .1 .answer) (ne-eqb (numberOf (p .0)) 0 (λ z. n (p .2 .0 ∙ z))));
+    }
 
-  pub writing-exactly : (n : ℕ) → (numberOf a ≡ n) ↔ FirstFailing (asked (writingRows list (length room))) n
-  writing-exactly = exactly (λ p. p ≡ blocksFor (count list)) (numberOf a) (placeOf a) (writingRows list (length room)) writing-row
+pub c-writes : Always WritesFromC Writes
+c-writes x l y (r, w, h) =
+    let a = writeAnswer (x .list) (length l) in
+    (a, record { answer = refl; room = w .room }, comes-apart a r y (writing-small x l (numberOf a) (placeOf a) (write-row x l)) (w .answer) h)
 
-  -- a book or a numbered refusal; a refusal changes no byte of the lent room
-  pub writing : (numberOf a ≡ 0) ⊎ (List·Memᴰ (numberOf a) (4 ∷ 10 ∷ []) × (exit ≡ room))
-  writing =
-      dite (ℕ-discrete (numberOf a) 0) inl
-      (λ n.
-      ⊎-elim inl (λ m. inr (m, written .room ∙ sym (write-refusal s list room a (written .answer) (ne-eqb (numberOf a) 0 n))))
-      (one-of (λ p. p ≡ blocksFor (count list)) (numberOf a) (placeOf a) (writingRows list (length room)) writing-row))
-
--- ---- the editor's call
-
-bytes-row : (results : List ℕ) (s : Settings) (list : List ℕ) (a : Answer) (results′ : List ℕ) → BytesPlanned s list results a results′
-    → FirstRow (bytesRows s list (length results)) (Needed s list) (numberOf a) (placeOf a)
-bytes-row results s list a results′ (bytes-refused (inl (f, (w, l, e)))) =
-    inl (f, ap numberOf e, subst (LowestOutOfRange s) (sym (ap placeOf e)) l)
-bytes-row results s list a results′ (bytes-refused (inr (h, inl (f, e)))) = inr (h, inl (f, ap numberOf e, ap placeOf e))
-bytes-row results s list a results′ (bytes-refused (inr (h, inr (k, r)))) = inr (h, inr (k, signal-row s list (Needed s list) a r))
-bytes-row results s list a results′ (bytes-done R p found shown) =
-    let signals = p .1 .1 in
-    inr (p .0, inr (p .1 .0, inr (signals .0, inr (signals .1 .0, inr (signals .1 .1 .0, (refl, (R, found, refl)))))))
-
-bytes-kept : (results : List ℕ) (s : Settings) (list : List ℕ) (a : Answer) (results′ : List ℕ) → BytesPlanned s list results a results′
-    → (numberOf a ≡ 0) ⊎ (results′ ≡ results)
-bytes-kept results s list a results′ (bytes-refused r) = inr refl
-bytes-kept results s list a results′ (bytes-done R p found shown) = inl refl
-
-book-row : (book results : List ℕ) (a : Answer) (results′ : List ℕ) → BookPlanned book results a results′
-    → FirstRow (editorRows book (length results)) (Needed (settingsIn book) (listIn book)) (numberOf a) (placeOf a)
-book-row book results a results′ (unread h) =
-    unsound-row book (bytesRows (settingsIn book) (listIn book) (length results)) (Needed (settingsIn book) (listIn book)) h
-book-row book results a results′ (read-planned h p) =
-    sound-row book (bytesRows (settingsIn book) (listIn book) (length results)) (Needed (settingsIn book) (listIn book)) (numberOf a) (placeOf a) h
-    (bytes-row results (settingsIn book) (listIn book) a results′ p)
-
-book-kept : (book results : List ℕ) (a : Answer) (results′ : List ℕ) → BookPlanned book results a results′ → (numberOf a ≡ 0) ⊎ (results′ ≡ results)
-book-kept book results a results′ (unread h) = inr refl
-book-kept book results a results′ (read-planned h p) = bytes-kept results (settingsIn book) (listIn book) a results′ p
-
-module _ (book results : List ℕ) (r : ℕ) (results′ : List ℕ) (answered : BookAnswered book results r results′) where
-  -- the number and the place that the 64-bit answer holds
-  abbrev number : ℕ
-  number = r / 4294967296
-
-  abbrev place : ℕ
-  place = r % 4294967296
-
-  -- they are those of the first row that does not hold; 0 and the slots used where all hold
-  pub editor-row : FirstRow (editorRows book (length results)) (Needed (settingsIn book) (listIn book)) number place
-  editor-row =
-      let small = book-place book results (answered .given) results′ (answered .plan) in
-      let halves = packed-halves (answered .given) r small (answered .answer) in
-      subst (λ (n : ℕ). FirstRow (editorRows book (length results)) (Needed (settingsIn book) (listIn book)) n place) (sym (halves .0))
-      (subst (FirstRow (editorRows book (length results)) (Needed (settingsIn book) (listIn book)) (numberOf (answered .given))) (sym (halves .1))
-      (book-row book results (answered .given) results′ (answered .plan)))
-
-  pub editor-exactly : (n : ℕ) → (number ≡ n) ↔ FirstFailing (asked (editorRows book (length results))) n
-  editor-exactly = exactly (Needed (settingsIn book) (listIn book)) number place (editorRows book (length results)) editor-row
-
-  -- a plan or a numbered refusal; a refusal changes no lent byte
-  pub editor : (number ≡ 0) ⊎ (List·Memᴰ number (1 ∷ 2 ∷ 3 ∷ 4 ∷ 5 ∷ 6 ∷ 10 ∷ 7 ∷ 8 ∷ 9 ∷ []) × (results′ ≡ results))
-  editor =
-      let small = book-place book results (answered .given) results′ (answered .plan) in
-      let halves = packed-halves (answered .given) r small (answered .answer) in
-      ⊎-elim inl
-      (λ m.
-      ⊎-elim (λ z. inl (halves .0 ∙ z)) (λ k. inr (m, k)) (book-kept book results (answered .given) results′ (answered .plan)))
-      (one-of (Needed (settingsIn book) (listIn book)) number place (editorRows book (length results)) editor-row)
+pub write-c-1 : Demand1Writing WritesFromC
+write-c-1 =
+    narrower writingRows (λ x p. p ≡ blocksFor (count (x .list))) Writes WritesFromC c-writes
+    (λ x l. let r = packedOf (writeAnswer (x .list) (length l)) in
+    (apart r (roomAfter (x .settings) (x .list) l), (r, record { answer = refl; room = refl }, (refl, refl))))
+    write-1

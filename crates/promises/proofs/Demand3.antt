@@ -1,159 +1,125 @@
--- Demand 3: "With valid settings, a valid list and room: refused exactly when no collision-free table under the rule
--- exists; an accepted plan is one and uses the fewest slots of any."
+-- Every way to plan keeps demand 3: over words, a list from C, and a book from the editor.
 -- Assumes nothing.
-use mathlib.Core.Path.{_≡_, refl, _∙_, ap}
-use mathlib.Core.List.{List}
-use mathlib.Core.Logic.{inl, inr, _↔_}
-use Prim.Native.Nat.{ℕ, _+_, _*_, _-_, _%_, _≤_}
+use mathlib.Core.Path.{_≡_, sym, subst}
+use mathlib.Core.List.{List, [], _∷_}
+use mathlib.Core.Logic.{inl, inr}
+use Prim.Native.Nat.{ℕ, _*_, _≤_}
 use native.Mathlib.Omega.{arith}
-use lib.ListN.{length, getD}
+use lib.ListN.{length}
 use Rattle.terms.specs.declared.Settings.{Settings}
-use Rattle.terms.specs.declared.Answer.{Answer}
-use Rattle.terms.specs.Answers.{numberOf, placeOf}
+use Rattle.terms.specs.declared.Frame.{Frame}
 use Rattle.terms.specs.Ranges.{SettingsInRange, SignalInRange}
 use Rattle.planner.specs.Lists.{CountInRange, count, EachSignal, Kept, Repetitions}
-use Rattle.planner.specs.Asked.{Refused, questions}
-use Rattle.planner.specs.AskedLaws.{refusal-number}
 use Rattle.planner.specs.Filled.{needed}
-use Rattle.planner.specs.Planned.{Planned}
-use Rattle.planner.specs.Planned.Planned.{refused, done}
-use Rattle.promises.specs.Tables.{Table, slotsUsed, slotsShown}
-use Rattle.promises.specs.Changes.{Raised, Struck}
-use Rattle.promises.proofs.Raising.{signals-raised, kept-raised, needed-raised}
-use Rattle.promises.proofs.Striking.{struck-count, struck-each, needed-struck}
-use Rattle.promises.proofs.Accepted.{slot, base, table, shown-exactly}
+use Rattle.book.specs.Reading.{settingsIn, listIn}
+use Rattle.promises.specs.Calls.{Request, PlanRoom, Routine, Always, WhereDone, Plans, PlansList, PlansBook}
+use Rattle.promises.specs.Rows.{FirstRow, settingRow, countRow, roomRow, Needed, signalRows, planningRows, bookRows, bytesRows, editorRows}
+use Rattle.promises.specs.Shows.{frameOf, ageOf, Planning, overWords, fromBook}
+use Rattle.promises.specs.Tables.{Table}
+use Rattle.promises.specs.Changes.{Eased}
+use Rattle.promises.specs.Demand3.{AcceptedPlan, Ready, Demand3}
+use Rattle.promises.proofs.Accepted.{plan-accepted}
+use Rattle.promises.proofs.Easing.{eased-count, signals-eased, kept-eased, needed-eased}
 use Rattle.promises.proofs.Fewest.{needed-least, used-most}
+use Rattle.promises.proofs.Found.{FoundPlan, words-found, book-found}
+use Rattle.promises.proofs.Demand1.{plan-1, list-plans, plan-list-1, plan-book-1}
+use Rattle.promises.proofs.RowLaws.{past}
 
--- valid settings, a valid list and room
-pub record Ready (s : Settings) (list cells results : List ℕ) : Type 0 where
-  pub settings : SettingsInRange s
-  pub right : CountInRange list
-  pub signals : EachSignal list (SignalInRange s)
-  pub cells-room : 64 * s .slots ≤ length cells
-  pub results-room : 4 * count list ≤ length results
+-- signals in range that keep their bounds and need no more than m slots are accepted with at most m
+accepted-within : (s : Settings) (list : List ℕ) (m : ℕ) → EachSignal list (SignalInRange s) → EachSignal list (Kept s)
+    → ((R : ℕ → ℕ) → Repetitions s list R → needed list R ≤ m) → m ≤ s .slots
+    → (n p : ℕ) → FirstRow (signalRows s list) (Needed s list) n p → (n ≡ 0) × (p ≤ m)
+accepted-within s list m signals kept least fits n p (inl f) = absurd (f .0 signals)
+accepted-within s list m signals kept least fits n p (inr (h, inl f)) = absurd (f .0 kept)
+accepted-within s list m signals kept least fits n p (inr (h, inr (k, inl f))) = absurd (f .0 (λ R r. omega (arith, least R r)))
+accepted-within s list m signals kept least fits n p (inr (h, inr (k, inr (l, (z, (R, r, e)))))) = (z, omega (arith, least R r, e))
 
-module _ (s : Settings) (list cells results : List ℕ) (h : Ready s list cells results) where
-  -- what is refused has no table
-  none-where-refused : (a : Answer) → Refused (questions s list (length cells) (length results) (needed list)) a
-      → (R slot base : ℕ → ℕ) → Table s list R slot base → ⊥
-  none-where-refused a (inl q) R slot base t = q .0 (h .settings)
-  none-where-refused a (inr (k, inl q)) R slot base t = q .0 (h .right)
-  none-where-refused a (inr (k, inr (l, inl q))) R slot base t = q .0 (h .cells-room)
-  none-where-refused a (inr (k, inr (l, inr (m, inl q)))) R slot base t = q .0 (h .results-room)
-  none-where-refused a (inr (k, inr (l, inr (m, inr (n, inl q))))) R slot base t = q .0 (h .signals)
-  none-where-refused a (inr (k, inr (l, inr (m, inr (n, inr (o, inl q)))))) R slot base t =
-      q .0 (λ i b. (R i, t .repetition i b, t .keeps i b))
-  none-where-refused a (inr (k, inr (l, inr (m, inr (n, inr (o, inr (p, inl q))))))) R slot base t =
-      q .0 (λ Q f. omega (arith, needed-least s list Q R slot base f t, used-most (s .slots) (count list) slot))
-  none-where-refused a (inr (k, inr (l, inr (m, inr (n, inr (o, inr (p, inr q))))))) R slot base t = q .1
+found-accepted : (s : Settings) (list : List ℕ) (place : ℕ) (word : ℕ → ℕ) → FoundPlan s list place word
+    → AcceptedPlan s list place (frameOf word) (ageOf word)
+found-accepted s list place word f =
+    subst (λ (n : ℕ). AcceptedPlan s list n (frameOf word) (ageOf word)) (sym (f .needs))
+    (plan-accepted s list (f .R) (f .fillable) word (f .shows))
 
-  -- what is accepted keeps every bound, and fits
-  pub record Accepted (a : Answer) : Type 0 where
-    pub R : ℕ → ℕ
-    pub repetitions : Repetitions s list R
-    pub kept : EachSignal list (Kept s)
-    pub fits : needed list R ≤ s .slots
-    pub place : placeOf a ≡ needed list R
-
-  pub accepted : (a : Answer) (cells′ results′ : List ℕ) → Planned s list cells results a cells′ results′ → numberOf a ≡ 0 → Accepted a
-  accepted a cells′ results′ (refused r) z = absurd (refusal-number s list (length cells) (length results) a r z)
-  accepted a cells′ results′ (done Q p plan) z =
-      record {
-        R = Q;
-        repetitions = plan .repetitions;
-        kept = p .1 .1 .1 .1 .1 .0;
-        fits = p .1 .1 .1 .1 .1 .1 .0 Q (plan .repetitions);
-        place = refl;
-      }
-
-  -- "refused exactly when no collision-free table under the rule exists"
-  pub refused-exactly : (a : Answer) (cells′ results′ : List ℕ) → Planned s list cells results a cells′ results′
-      → (numberOf a ≡ 0 → ⊥) ↔ ((R slot base : ℕ → ℕ) → Table s list R slot base → ⊥)
-  refused-exactly a cells′ results′ (refused r) = ((λ n. none-where-refused a r), λ none z. refusal-number s list (length cells) (length results) a r z)
-  refused-exactly a cells′ results′ (done Q p plan) = (
-    (λ n. absurd (n refl)),
-    λ none z.
-        none Q (slot s list Q cells results cells′ results′ (h .signals) (p .1 .1 .1 .1 .1 .0) (p .1 .1 .1 .1 .1 .1 .0 Q (plan .repetitions)) plan)
-        (base s list Q cells results cells′ results′ (h .signals) (p .1 .1 .1 .1 .1 .0) (p .1 .1 .1 .1 .1 .1 .0 Q (plan .repetitions)) plan)
-        (table s list Q cells results cells′ results′ (h .signals) (p .1 .1 .1 .1 .1 .0) (p .1 .1 .1 .1 .1 .1 .0 Q (plan .repetitions)) plan),
-  )
-
-  -- "an accepted plan is one": the slots and bases that the results show are a table; and the number given is that of
-  -- the slots with a nonzero cell
-  pub record Sound (a : Answer) (cells′ results′ : List ℕ) : Type 0 where
-    pub R : ℕ → ℕ
-    pub table : Table s list R (λ i. getD results′ (4 * (i - 1)) 0) (λ i. getD results′ (4 * (i - 1) + 1) 0)
-    pub shown : slotsShown (s .slots) cells′ ≡ placeOf a
-
-  pub accepted-sound : (a : Answer) (cells′ results′ : List ℕ) → Planned s list cells results a cells′ results′ → numberOf a ≡ 0 → Sound a cells′ results′
-  accepted-sound a cells′ results′ (refused r) z = absurd (refusal-number s list (length cells) (length results) a r z)
-  accepted-sound a cells′ results′ (done Q p plan) z =
-      record {
-        R = Q;
-        table = table s list Q cells results cells′ results′ (h .signals) (p .1 .1 .1 .1 .1 .0) (p .1 .1 .1 .1 .1 .1 .0 Q (plan .repetitions)) plan;
-        shown =
-            shown-exactly s list Q cells results cells′ results′ (h .signals) (p .1 .1 .1 .1 .1 .0) (p .1 .1 .1 .1 .1 .1 .0 Q (plan .repetitions)) plan;
-      }
-
-  -- "an accepted plan uses the fewest slots of any"
-  pub fewest : (a : Answer) (cells′ results′ : List ℕ) → Planned s list cells results a cells′ results′ → numberOf a ≡ 0
-      → (R slot base : ℕ → ℕ) → Table s list R slot base → placeOf a ≤ slotsUsed (s .slots) (count list) slot
-  fewest a cells′ results′ (refused r) z R slot base t = absurd (none-where-refused a r R slot base t)
-  fewest a cells′ results′ (done Q p plan) z R slot base t = needed-least s list Q R slot base (plan .repetitions) t
-
--- "Raising bounds up to their periods, or striking signals, never turns accepted into refused nor costs a slot": a list
--- whose signals keep their bounds and need no more slots stays accepted
-stays : (s : Settings) (list′ cells results : List ℕ) (n : ℕ) → Ready s list′ cells results → EachSignal list′ (Kept s)
-    → ((Q : ℕ → ℕ) → Repetitions s list′ Q → needed list′ Q ≤ n) → n ≤ s .slots
-    → (a : Answer) (cells′ results′ : List ℕ) → Planned s list′ cells results a cells′ results′ → (numberOf a ≡ 0) × (placeOf a ≤ n)
-stays s list′ cells results n h kept least fits a cells′ results′ (done Q p plan) = (refl, least Q (plan .repetitions))
-stays s list′ cells results n h kept least fits a cells′ results′ (refused r) = absurd (none a r)
-  where
-    none : (a : Answer) → Refused (questions s list′ (length cells) (length results) (needed list′)) a → ⊥
-    none a (inl q) = q .0 (h .settings)
-    none a (inr (k, inl q)) = q .0 (h .right)
-    none a (inr (k, inr (l, inl q))) = q .0 (h .cells-room)
-    none a (inr (k, inr (l, inr (m, inl q)))) = q .0 (h .results-room)
-    none a (inr (k, inr (l, inr (m, inr (n, inl q))))) = q .0 (h .signals)
-    none a (inr (k, inr (l, inr (m, inr (n, inr (o, inl q)))))) = q .0 kept
-    none a (inr (k, inr (l, inr (m, inr (n, inr (o, inr (p, inl q))))))) = q .0 (λ Q f. omega (arith, least Q f, fits))
-    none a (inr (k, inr (l, inr (m, inr (n, inr (o, inr (p, inr q))))))) = q .1
-
+-- any way to plan that asks the rows of its signals where it is ready, and shows what it has found where it accepts
 module _
-    (s : Settings)
-    (list cells results : List ℕ)
-    (h : Ready s list cells results)
-    (a : Answer)
-    (cells₁ results₁ : List ℕ)
-    (planned : Planned s list cells results a cells₁ results₁)
-    (ok : numberOf a ≡ 0)
+    {Asked Room : Type 0}
+    (p : Planning Asked Room)
+    (Gives : Routine Asked Room)
+    (rows : Always Gives
+    (λ x l y. Ready p x l → FirstRow (signalRows (p .settings x) (p .list x)) (Needed (p .settings x) (p .list x)) (y .number) (y .place)))
+    (found : WhereDone Gives (λ x l y. FoundPlan (p .settings x) (p .list x) (y .place) (p .word (y .lent))))
   where
-    pub raising : (list′ cells₂ results₂ cells₃ results₃ : List ℕ) (a′ : Answer) → Raised list list′ → 64 * s .slots ≤ length cells₂
-        → 4 * count list′ ≤ length results₂ → Planned s list′ cells₂ results₂ a′ cells₃ results₃ → (numberOf a′ ≡ 0) × (placeOf a′ ≤ placeOf a)
-    raising list′ cells₂ results₂ cells₃ results₃ a′ r l m p =
-        let k = accepted s list cells results h a cells₁ results₁ planned ok in
-        let ready : Ready s list′ cells₂ results₂ =
-        record {
-          settings = h .settings;
-          right = record { whole = ap (λ (n : ℕ). n % 5) (r .same-length) ∙ h .right .whole; few = omega (arith, r .same-length, h .right .few) };
-          signals = signals-raised s list list′ r (h .signals);
-          cells-room = l;
-          results-room = m;
-        } in
-        stays s list′ cells₂ results₂ (placeOf a) ready (kept-raised s list list′ r (k .kept))
-        (λ Q q. omega (arith, needed-raised s list list′ r (k .R) Q (k .kept) (k .repetitions) q, k .place)) (omega (arith, k .place, k .fits)) a′ cells₃ results₃ p
+    -- where there is a table, the call is accepted
+    accepted-with :
+        Always Gives (λ x l y. Ready p x l → (frame : ℕ → Frame) → Table (p .settings x) (p .list x) frame → y .number ≡ 0)
+    accepted-with x l y g h frame t =
+        let s = p .settings x in
+        let list = p .list x in
+        accepted-within s list (s .slots) (h .signals) (λ i b. (frame i .repetition, t .frames i b .repetition, t .keeps i b))
+        (λ Q q. omega (arith, needed-least s list Q frame q t, used-most (s .slots) (count list) frame)) (omega arith)
+        (y .number) (y .place) (rows x l y g h) .0
 
-    pub striking : (list′ cells₂ results₂ cells₃ results₃ : List ℕ) (a′ : Answer) → Struck list list′ → 64 * s .slots ≤ length cells₂
-        → 4 * count list′ ≤ length results₂ → Planned s list′ cells₂ results₂ a′ cells₃ results₃ → (numberOf a′ ≡ 0) × (placeOf a′ ≤ placeOf a)
-    striking list′ cells₂ results₂ cells₃ results₃ a′ r l m p =
-        let k = accepted s list cells results h a cells₁ results₁ planned ok in
-        let ready : Ready s list′ cells₂ results₂ =
+    pub planning-3 : Demand3 p Gives
+    planning-3 =
         record {
-          settings = h .settings;
-          right = struck-count r (h .right);
-          signals = struck-each r (SignalInRange s) (h .signals);
-          cells-room = l;
-          results-room = m;
-        } in
-        stays s list′ cells₂ results₂ (placeOf a) ready (struck-each r (Kept s) (k .kept))
-        (λ Q q. omega (arith, needed-struck s r (k .R) Q (k .repetitions) q, k .place)) (omega (arith, k .place, k .fits)) a′ cells₃ results₃ p
+          refused-exactly = λ x l y g h. (
+            (λ n frame t. n (accepted-with x l y g h frame t)),
+            λ none z. let a = found-accepted _ _ _ _ (found x l y g z) in none _ (a .table),
+          );
+          refused-strictly = λ x l y g h. (
+            (λ n frame t r. n (accepted-with x l y g h frame t)),
+            λ none z. let a = found-accepted _ _ _ _ (found x l y g z) in none _ (a .table) (a .rule),
+          );
+          accepted = λ x l y g z. found-accepted _ _ _ _ (found x l y g z);
+          eased = λ x l y g z x′ l′ y′ g′ same e enough.
+              let f = found x l y g z in
+              let h = f .fillable in
+              let s = p .settings x in
+              let signals = signals-eased s e (h .signals) in
+              let ready : Ready p x′ l′ =
+              record {
+                settings = subst SettingsInRange (sym same) (h .settings);
+                whole = eased-count e (h .whole);
+                signals = subst (λ (t : Settings). EachSignal (p .list x′) (SignalInRange t)) (sym same) signals;
+                enough = enough;
+              } in
+              accepted-within s (p .list x′) (y .place) signals (kept-eased s e (h .kept))
+              (λ Q q. omega (arith, needed-eased s e (f .R) Q (h .kept) (h .found) q, f .needs)) (omega (arith, f .needs, h .fits)) (y′ .number) (y′ .place)
+              (subst (λ (t : Settings). FirstRow (signalRows t (p .list x′)) (Needed t (p .list x′)) (y′ .number) (y′ .place)) same (rows x′ l′ y′ g′ ready));
+        }
+
+-- ---- the routines: past the rows before those of the signals
+
+words-rows : (x : Request) (l : PlanRoom) → Ready overWords x l → (n p : ℕ) → FirstRow (planningRows x l) (Needed (x .settings) (x .list)) n p
+    → FirstRow (signalRows (x .settings) (x .list)) (Needed (x .settings) (x .list)) n p
+words-rows x l h n p =
+    past (signalRows (x .settings) (x .list)) (Needed (x .settings) (x .list)) n p
+    (settingRow (x .settings)
+    ∷ countRow (x .list)
+    ∷ roomRow (64 * x .settings .slots) (length (l .cells))
+    ∷ roomRow (4 * count (x .list)) (length (l .results))
+    ∷ [])
+    (h .settings, (h .whole, (h .enough .0, (h .enough .1, tt))))
+
+book-rows : (book l : List ℕ) → Ready fromBook book l → (n p : ℕ) → FirstRow (editorRows book l) (Needed (settingsIn book) (listIn book)) n p
+    → FirstRow (signalRows (settingsIn book) (listIn book)) (Needed (settingsIn book) (listIn book)) n p
+book-rows book l h n p row =
+    let s = settingsIn book in
+    let list = listIn book in
+    past (signalRows s list) (Needed s list) n p (settingRow s ∷ roomRow (16 * count list) (length l) ∷ []) (h .settings, (h .enough .1, tt))
+    (past (bytesRows s list l) (Needed s list) n p (bookRows book) (h .enough .0) row)
+
+pub plan-3 : Demand3 overWords Plans
+plan-3 =
+    planning-3 overWords Plans (λ x l y g h. words-rows x l h (y .number) (y .place) (plan-1 .numbered x l y g))
+    (λ x l y g z. words-found x l y g z .found)
+
+pub plan-list-3 : Demand3 overWords PlansList
+plan-list-3 =
+    planning-3 overWords PlansList (λ x l y g h. words-rows x l h (y .number) (y .place) (plan-list-1 .numbered x l y g))
+    (λ x l y g z. words-found x l y (list-plans x l y g) z .found)
+
+pub plan-book-3 : Demand3 fromBook PlansBook
+plan-book-3 =
+    planning-3 fromBook PlansBook (λ book l y g h. book-rows book l h (y .number) (y .place) (plan-book-1 .numbered book l y g))
+    (λ book l y g z. book-found book l y g z .found)

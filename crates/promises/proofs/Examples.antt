@@ -1,25 +1,66 @@
--- The smaller definitions that the three demands rest on, each with one thing that satisfies it and one that does not; `NotVacuous` has
--- the others.
+-- The smaller definitions that the demands rest on, each with one thing that satisfies it and one that does not, most of them from
+-- "Examples with numbers". `NotVacuous` has what speaks of plans and books.
 -- Assumes nothing.
-use mathlib.Core.Path.{_≡_, refl}
-use mathlib.Core.List.{[], _∷_}
-use Prim.Native.Nat.{ℕ, _^_}
+use mathlib.Core.Path.{_≡_, refl, ap}
+use mathlib.Core.List.{List, [], _∷_}
+use mathlib.Core.Logic.{inl, inr}
+use Prim.Native.Nat.{ℕ, zero, suc, _^_, _≤_}
 use native.Mathlib.Omega.{arith}
 use lib.Dec.{lit≤}
-use lib.ListN.{length, length-replicate}
+use lib.ListN.{getD}
+use Rattle.laws.specs.DivisorLaws.{euclid}
 use Rattle.terms.specs.declared.Frame.{Frame}
-use Rattle.terms.specs.declared.Answer.the-variants.{Done, Count}
-use Rattle.terms.specs.Ranges.{FrameInRange, SignalInRange}
-use Rattle.age.specs.Age.{Start, ValueAge}
-use Rattle.planner.specs.Lists.{EachSignal}
+use Rattle.terms.specs.Ranges.{SettingsInRange, LowestOutOfRange, SignalInRange, Repetition, FrameInRange}
+use Rattle.terms.specs.RepetitionLaws.{repetition-positive, repetition-multiple}
+use Rattle.age.specs.Age.{Age, Start, Release, Carries, ValueAge, firstStart, spanOf}
+use Rattle.age.specs.AgeLaws.{age-unique}
+use Rattle.age.specs.AgeTests.{age-test}
+use Rattle.cycles.specs.Frames.{Names}
+use Rattle.cycles.specs.FrameLaws.{named-remainder}
+use Rattle.planner.specs.Lists.{CountInRange, signalAt, EachSignal, Kept, LowestWithout}
 use Rattle.book.specs.Words.{AllBelow}
 use Rattle.book.specs.Blocks.{AreWords}
 use Rattle.promises.specs.Shows.{Sends}
-use Rattle.promises.specs.Inputs.{settings, case1, blank}
-use Rattle.promises.proofs.Named.{settings-words}
-use Rattle.promises.proofs.NotVacuous.{settings-yes, names-yes, carries-yes, ready-yes, case12-outcome}
-use Rattle.promises.proofs.Demand2.{Releases, releases, GivenBack}
-use Rattle.promises.proofs.Demand3.{Ready, Sound, accepted-sound}
+use Rattle.promises.specs.Demand2.{Releases, StartsAt, Behind}
+use Rattle.promises.specs.Changes.{RaisedSignal, Eased}
+use Rattle.promises.specs.Inputs.{settings, fresh, stale, case1, case3, twice}
+use Rattle.promises.proofs.Named.{fresh-valid, stale-valid, fresh-gets, stale-gets, at-one, settings-words}
+use Rattle.promises.proofs.Releasing.{releases}
+use Rattle.promises.proofs.Clock.{starts-named}
+
+-- ---- ranges
+
+pub settings-yes : SettingsInRange settings
+settings-yes = fresh-valid .settings
+
+-- one slot is too few
+pub settings-no : SettingsInRange (record { cycle = 2500; slot = 16; slots = 1; packing = 0; payload = 8 }) → ⊥
+settings-no h = omega (arith, h .1 .1 .0 .0)
+
+pub signal-yes : SignalInRange settings fresh
+signal-yes = fresh-valid .signal
+
+-- the offset is below the period
+pub signal-no : SignalInRange settings (record { unit = 1; period = 2500; offset = 2500; size = 16; bound = 2500 }) → ⊥
+signal-no h = omega (arith, h .offset)
+
+pub count-yes : CountInRange case1
+count-yes = record { whole = refl; few = lit≤ tt }
+
+pub count-no : CountInRange (1 ∷ 2500 ∷ 0 ∷ 16 ∷ []) → ⊥
+count-no h = omega (arith, h .whole)
+
+-- the number of slots is word 4
+pub lowest-yes : LowestOutOfRange (record { cycle = 2500; slot = 16; slots = 1; packing = 0; payload = 8 }) 4
+lowest-yes = inr ((lit≤ tt, lit≤ tt), inr ((lit≤ tt, lit≤ tt), inl ((λ h. omega (arith, h .0 .0)), refl)))
+
+pub lowest-no : LowestOutOfRange settings 4 → ⊥
+lowest-no (inl (f, e)) = omega (arith, e)
+lowest-no (inr (a, inl (f, e))) = omega (arith, e)
+lowest-no (inr (a, inr (b, inl (f, e)))) = f (settings-yes .1 .1 .0)
+lowest-no (inr (a, inr (b, inr (c, inl (f, e))))) = omega (arith, e)
+lowest-no (inr (a, inr (b, inr (c, inr (d, inl (f, e)))))) = omega (arith, e)
+lowest-no (inr (a, inr (b, inr (c, inr (d, inr (f, e)))))) = omega (arith, e)
 
 abbrev pub frame : (slot base : ℕ) → Frame
 frame slot base = record { slot = slot; repetition = 4; base = base }
@@ -32,10 +73,25 @@ pub frame-no : FrameInRange settings (frame 93 4) → ⊥
 frame-no h = omega (arith, h .base)
 
 pub each-yes : EachSignal case1 (SignalInRange settings)
-each-yes = ready-yes .signals
+each-yes = at-one (λ i. SignalInRange settings (signalAt case1 i)) (fresh-valid .signal)
 
 pub each-no : EachSignal case1 (λ x. x .unit ≡ 2) → ⊥
 each-no h = omega (arith, h 1 (lit≤ tt, lit≤ tt))
+
+-- ---- releases, carrying frames, ages
+
+pub release-yes : Release 15 2500 5015
+release-yes = (2, refl)
+
+pub release-no : Release 15 2500 5016 → ⊥
+release-no r = omega (arith, r .1)
+
+-- a frame start equal to the release plus packing time carries the value; the next one does not
+pub carries-yes : Carries 0 2500 100 2400 2500
+carries-yes = record { start = (1, refl); packed = lit≤ tt; earliest = λ u s l. l }
+
+pub carries-no : Carries 0 2500 100 2400 5000 → ⊥
+carries-no h = omega (arith, h .earliest 2500 (1, refl) (lit≤ tt))
 
 pub start-yes : Start 32 2500 5032
 start-yes = (2, refl)
@@ -58,6 +114,47 @@ value-age-yes = record { sent = 2500; carries = carries-yes; age = refl }
 pub value-age-no : ValueAge 0 2500 100 16 2400 100 → ⊥
 value-age-no h = omega (arith, h .age, h .carries .earliest 2500 (1, refl) (lit≤ tt), h .carries .packed)
 
+-- case 3: the age in slot 1 is 2,501, and no other number is
+abbrev slot1 : Frame
+slot1 = record { slot = 1; repetition = 1; base = 0 }
+
+pub age-yes : Age settings stale slot1 2501
+unfolding euclid
+age-yes = age-test settings stale slot1 2501 .1 tt .1
+
+pub age-no : Age settings stale slot1 2485 → ⊥
+age-no h =
+    omega (arith, age-unique (firstStart settings slot1) (spanOf settings slot1) 0 16 15 2500 2485 2501 h age-yes)
+
+-- ---- repetitions, cycles and the rule
+
+pub repetition-yes : Repetition 64
+repetition-yes = (6, lit≤ tt, refl)
+
+pub repetition-no : Repetition 3 → ⊥
+repetition-no r = let whole = repetition-multiple 3 64 r repetition-yes (lit≤ tt) in omega (arith, whole .1)
+
+pub names-yes : Names 4 1 61
+names-yes = record { repetition = (2, lit≤ tt, refl); base = lit≤ tt; again = (15, refl) }
+
+pub names-no : Names 4 1 62 → ⊥
+names-no n = omega (arith, named-remainder n)
+
+pub kept-yes : Kept settings fresh
+kept-yes = let keeps = fresh-gets .has (λ e. omega (arith, e)) in (1, keeps .0, keeps .1)
+
+pub kept-no : Kept settings stale → ⊥
+kept-no k = omega (arith, stale-gets .largest (k .0) (k .1) (k .2), repetition-positive (k .0) (k .1))
+
+-- signal 1 of case 3 is the lowest whose bound no repetition keeps; case 1 has none
+pub lowest-signal-yes : LowestWithout case3 (Kept settings) 1
+lowest-signal-yes = record { within = (lit≤ tt, lit≤ tt); fails = kept-no; before = λ j l h. absurd (omega (arith, l, h)) }
+
+pub lowest-signal-no : (i : ℕ) → LowestWithout case1 (Kept settings) i → ⊥
+lowest-signal-no i h = h .fails (at-one (λ j. Kept settings (signalAt case1 j)) kept-yes i (h .within))
+
+-- ---- what plans and books are said by
+
 pub sends-yes : Sends (record { slot = 7; repetition = 4; base = 1 }) 7 61
 sends-yes = (refl, names-yes)
 
@@ -76,27 +173,55 @@ words-yes = settings-words
 pub words-no : AreWords (record { cycle = 2 ^ 32; slot = 16; slots = 93; packing = 0; payload = 8 }) → ⊥
 words-no h = omega (arith, h .cycle)
 
-pub given-back-yes : GivenBack settings [] [] (record { answer = Done 0; settings = settings }) []
-given-back-yes = record { accepted = refl; signals = refl; settings = refl; words = refl }
+-- a frame of repetition 4 and base 1 in slot 7 starts in cycle 61 and, the 64 cycles coming again, in cycle 65
+pub starts-yes : StartsAt settings (Sends (record { slot = 7; repetition = 4; base = 1 })) 162596
+starts-yes = (65, 7, (refl, record { repetition = (2, lit≤ tt, refl); base = lit≤ tt; again = (0, refl) }), refl)
 
--- a reader that refuses
-pub given-back-no : GivenBack settings [] [] (record { answer = Count; settings = settings }) [] → ⊥
-given-back-no h = omega (arith, h .accepted)
+pub starts-no : StartsAt settings (Sends (record { slot = 7; repetition = 4; base = 1 })) 162597 → ⊥
+starts-no at =
+    let f : Frame = record { slot = 7; repetition = 4; base = 1 } in
+    let start = starts-named settings f (record { slot = (lit≤ tt, lit≤ tt); repetition = (2, lit≤ tt, refl); base = lit≤ tt }) 162597 .1 at in
+    omega (arith, start .1)
 
--- case 12 under valid settings with room
-pub case12-ready : Ready settings [] blank []
-case12-ready =
+pub behind-yes : Behind 1 (5 ∷ 6 ∷ []) (7 ∷ 6 ∷ [])
+behind-yes = (refl, stays)
+  where
+    stays : (j : ℕ) → 1 ≤ j → getD {A = ℕ} (7 ∷ 6 ∷ []) j 0 ≡ getD {A = ℕ} (5 ∷ 6 ∷ []) j 0
+    stays zero h = absurd (omega (arith, h))
+    stays (suc j) h = refl
+
+pub behind-no : Behind 1 (5 ∷ 6 ∷ []) (5 ∷ 7 ∷ []) → ⊥
+behind-no h = omega (arith, h .1 1 (lit≤ tt))
+
+-- ---- eased
+
+-- case 1 with a bound of 2,000; and the signal of case 3 before it
+abbrev lower : List ℕ
+lower = 1 ∷ 2500 ∷ 0 ∷ 16 ∷ 2000 ∷ []
+
+abbrev both : List ℕ
+both = 1 ∷ 2500 ∷ 15 ∷ 16 ∷ 2500 ∷ lower
+
+-- the first signal struck, and the second's bound raised
+pub eased-yes : Eased both case1
+eased-yes =
     record {
-      settings = settings-yes;
-      right = record { whole = refl; few = lit≤ tt };
-      signals = λ i b. absurd (omega (arith, b .0, b .1));
-      cells-room = omega (arith, length-replicate {A = ℕ} 5952 0);
-      results-room = lit≤ tt;
+      whole = refl;
+      was = suc;
+      rising = λ i j a b c. omega arith;
+      within = λ j b. omega arith;
+      raised = at-one (λ j. RaisedSignal (signalAt both (suc j)) (signalAt case1 j))
+          (record { unit = refl; period = refl; offset = refl; size = refl; raised = lit≤ tt; most = lit≤ tt });
     }
 
-pub sound-plan-yes : Sound settings [] blank [] case12-ready (Done 0) blank []
-sound-plan-yes = accepted-sound settings [] blank [] case12-ready (Done 0) blank [] case12-outcome refl
+-- a bound lowered
+pub eased-no-lower : Eased case1 lower → ⊥
+eased-no-lower h =
+    let first : h .was 1 ≡ 1 = omega (arith, h .within 1 (lit≤ tt, lit≤ tt)) in
+    omega (arith, h .raised 1 (lit≤ tt, lit≤ tt) .raised, ap (λ (i : ℕ). signalAt case1 i .bound) first)
 
--- one slot given where no cell is other than 0
-pub sound-plan-no : Sound settings [] blank [] case12-ready (Done 1) blank [] → ⊥
-sound-plan-no h = omega (arith, h .shown, sound-plan-yes .shown)
+-- a signal added
+pub eased-no-more : Eased case1 twice → ⊥
+eased-no-more h =
+    let first = h .within 1 (lit≤ tt, lit≤ tt) in
+    omega (arith, h .rising 1 2 (lit≤ tt) (lit≤ tt) (lit≤ tt), h .within 2 (lit≤ tt, lit≤ tt))

@@ -1,6 +1,7 @@
--- No table uses fewer slots than the signals need with the repetitions that the rule gives.
+-- No table uses fewer slots than the signals need with the repetitions that the rule gives; and fewer signals with
+-- larger repetitions need no more.
 -- Assumes nothing.
-use mathlib.Core.Path.{_≡_, refl, _∙_, sym}
+use mathlib.Core.Path.{_≡_, refl, _∙_, sym, ap}
 use mathlib.Core.List.{List}
 use mathlib.Core.Logic.{dite}
 use Prim.Native.Nat.{ℕ, zero, suc, _+_, _/_, _≤_, _<_}
@@ -8,11 +9,12 @@ use native.Mathlib.Decide.{ℕ-discrete}
 use native.Mathlib.Nat.{min-le-left, le-div-iff-mul-le, div-mul-le-self, mul-le-mul-left}
 use native.Mathlib.Omega.{arith}
 use Rattle.terms.specs.declared.Settings.{Settings}
+use Rattle.terms.specs.declared.Frame.{Frame}
 use Rattle.terms.specs.Ranges.{Between}
 use Rattle.terms.specs.RepetitionLaws.{repetition-positive}
 use Rattle.cycles.specs.Loads.{slotsFor}
 use Rattle.filling.specs.Sums.{sum, same}
-use Rattle.filling.specs.SumLaws.{sum-le, sum-const}
+use Rattle.filling.specs.SumLaws.{sum-le, sum-ext, sum-const}
 use Rattle.filling.specs.Tables.{load}
 use Rattle.filling.specs.Units.{ofUnit}
 use Rattle.filling.specs.UnitLaws.{units-bound}
@@ -22,43 +24,63 @@ use Rattle.planner.specs.LoadLaws.{loadFrom, load-of-unit, load-of-other, nothi
 use Rattle.promises.specs.Tables.{Table, taken, slotsUsed}
 use Rattle.promises.proofs.Owned.{unit-table, used-slots, load-owned, owned}
 
--- a load falls where repetitions rise and units stay
-pub load-falls :
-    (list list′ : List ℕ) (R Q : ℕ → ℕ) (u n i : ℕ) →
-    ((j : ℕ) → i ≤ j → j < i + n → (signalAt list j .unit ≡ signalAt list′ j .unit) × (64 / Q j ≤ 64 / R j)) →
-    loadFrom list′ Q u n i ≤ loadFrom list R u n i
-load-falls list list′ R Q u zero i h = omega (arith, nothing-left list′ Q u i, nothing-left list R u i)
-load-falls list list′ R Q u (suc n) i h =
-    let rest = load-falls list list′ R Q u n (suc i) (λ j a b. h j (omega arith) (omega arith)) in
-    let here = h i (omega arith) (omega arith) in
-    dite (ℕ-discrete (signalAt list i .unit) u)
-    (λ e. omega (arith, load-of-unit list′ Q u n i (sym (here .0) ∙ e), load-of-unit list R u n i e, here .1, rest))
-    (λ d. omega (arith, load-of-other list′ Q u n i (λ e. d (here .0 ∙ e)), load-of-other list R u n i d, rest))
-
 -- a larger divisor goes in less often
-pub quotient-falls : (a b : ℕ) → 0 < a → a ≤ b → 64 / b ≤ 64 / a
+quotient-falls : (a b : ℕ) → 0 < a → a ≤ b → 64 / b ≤ 64 / a
 quotient-falls a b h l =
     le-div-iff-mul-le {x = 64 / b} {y = 64} h .1 (omega (arith, mul-le-mul-left (64 / b) l, div-mul-le-self 64 b))
 
--- with the largest repetitions the least is needed
-pub needed-least : (s : Settings) (list : List ℕ) (Q R slot base : ℕ → ℕ) → Repetitions s list Q → Table s list R slot base
-    → needed list Q ≤ slotsUsed (s .slots) (count list) slot
-needed-least s list Q R slot base q t =
-    let all = owned list R slot base (count list) 1 in
-    let least =
-    sum-le (λ u. slotsFor (unitLoad list Q u)) (λ u. slotsFor (load (ofUnit u all))) 256 (λ u h. one-unit u) in
-    omega (arith, least, units-bound (s .slots + 1) 256 all (unit-table s list R slot base t), used-slots s list R slot base t)
+-- no more is needed where signal j of list′ was signal `was j` of list, of the same unit and with no larger repetition
+module _
+    (list list′ : List ℕ)
+    (R Q was : ℕ → ℕ)
+    (rising : (i j : ℕ) → 1 ≤ i → i < j → j ≤ count list′ → was i < was j)
+    (within : (j : ℕ) → Between 1 (count list′) j → Between 1 (count list) (was j))
+    (unit : (j : ℕ) → Between 1 (count list′) j → signalAt list′ j .unit ≡ signalAt list (was j) .unit)
+    (rarer : (j : ℕ) → Between 1 (count list′) j → (0 < R (was j)) × (R (was j) ≤ Q j))
   where
-    rarer : (j : ℕ) → Between 1 (count list) j → 64 / Q j ≤ 64 / R j
-    rarer j b = quotient-falls (R j) (Q j) (repetition-positive (R j) (t .repetition j b)) (q j b .largest (R j) (t .repetition j b) (t .keeps j b))
+    -- of the last m signals of list′, from j on, and the last n of list, from i on, where j was not before i
+    load-falls : (u n i m j : ℕ) → (1 ≤ j) × (m + j ≡ suc (count list′)) × (n + i ≡ suc (count list)) → (j ≤ count list′ → i ≤ was j)
+        → loadFrom list′ Q u m j ≤ loadFrom list R u n i
+    load-falls u n i zero j h l = omega (arith, nothing-left list′ Q u j)
+    load-falls u zero i (suc m) j h l = absurd (omega (arith, within j (omega arith), l (omega arith)))
+    load-falls u (suc n) i (suc m) j h l =
+        let b : Between 1 (count list′) j = omega arith in
+        dite (ℕ-discrete (was j) i)
+        (λ e.
+        let rest = load-falls u n (suc i) m (suc j) (omega arith) (λ k. omega (arith, rising j (suc j) (b .0) (omega arith) k)) in
+        let less = quotient-falls (R (was j)) (Q j) (rarer j b .0) (rarer j b .1) in
+        let here = unit j b ∙ ap (λ (k : ℕ). signalAt list k .unit) e in
+        dite (ℕ-discrete (signalAt list i .unit) u)
+        (λ q. omega (arith, load-of-unit list′ Q u m j (here ∙ q), load-of-unit list R u n i q, rest, less, ap (λ (k : ℕ). 64 / R k) e))
+        (λ d. omega (arith, load-of-other list′ Q u m j (λ q. d (sym here ∙ q)), load-of-other list R u n i d, rest)))
+        (λ e.
+        let rest = load-falls u n (suc i) (suc m) j (omega arith) (λ k. omega (arith, l k)) in
+        dite (ℕ-discrete (signalAt list i .unit) u) (λ q. omega (arith, load-of-unit list R u n i q, rest))
+        (λ d. omega (arith, load-of-other list R u n i d, rest)))
 
-    one-unit : (u : ℕ) → slotsFor (unitLoad list Q u) ≤ slotsFor (load (ofUnit u (owned list R slot base (count list) 1)))
-    one-unit u =
-        omega
-        (arith, load-falls list list R Q u (count list) 1 (λ j a b. (refl, rarer j (a, omega arith))), load-owned list R slot base u (count list) 1 (λ j a b. t .repetition j (a, omega arith)))
+    pub needed-falls : needed list′ Q ≤ needed list R
+    needed-falls =
+        sum-le (λ u. slotsFor (unitLoad list′ Q u)) (λ u. slotsFor (unitLoad list R u)) 256
+        (λ u h. omega (arith, load-falls u (count list) 1 (count list′) 1 (omega arith) (λ k. within 1 (omega arith) .0)))
+
+-- with the largest repetitions the least is needed
+pub needed-least : (s : Settings) (list : List ℕ) (Q : ℕ → ℕ) (frame : ℕ → Frame) → Repetitions s list Q → Table s list frame
+    → needed list Q ≤ slotsUsed (s .slots) (count list) frame
+needed-least s list Q frame q t =
+    let R : ℕ → ℕ = λ i. frame i .repetition in
+    let all = owned list R (λ i. frame i .slot) (λ i. frame i .base) (count list) 1 in
+    let least =
+    needed-falls list list R Q (λ j. j) (λ i j a b c. b) (λ j b. b) (λ j b. refl)
+    (λ j b. let r = t .frames j b .repetition in (repetition-positive (R j) r, q j b .largest (R j) r (t .keeps j b))) in
+    let loads =
+    sum-ext (λ u. slotsFor (load (ofUnit u all))) (λ u. slotsFor (unitLoad list R u)) 256
+    (λ u h.
+    ap slotsFor
+    (load-owned list R (λ i. frame i .slot) (λ i. frame i .base) u (count list) 1 (λ j a b. t .frames j (a, omega arith) .repetition))) in
+    omega (arith, least, loads, units-bound (s .slots + 1) 256 all (unit-table s list frame t), used-slots s list frame t)
 
 -- a table in the slots 1 to n uses at most n
-pub used-most : (n m : ℕ) (slot : ℕ → ℕ) → slotsUsed n m slot ≤ n
-used-most n m slot =
+pub used-most : (n m : ℕ) (frame : ℕ → Frame) → slotsUsed n m frame ≤ n
+used-most n m frame =
     omega
-    (arith, sum-le (λ k. taken m slot (1 + k)) (λ k. 1) n (λ k h. min-le-left 1 (sum (λ i. same (slot (1 + i)) (1 + k)) m)), sum-const 1 n)
+    (arith, sum-le (λ k. taken m frame (1 + k)) (λ k. 1) n (λ k h. min-le-left 1 (sum (λ i. same (frame (1 + i) .slot) (1 + k)) m)), sum-const 1 n)

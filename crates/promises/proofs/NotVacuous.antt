@@ -1,255 +1,223 @@
--- Of what the three demands rest on, one thing that satisfies it and one that does not, most of them from "Examples with
--- numbers"; so no promise holds for want of anything to speak of. `Examples` has the smaller definitions.
+-- Plans, tables and books: of what the demands say of them, one thing that satisfies it and one that does not, on lists that are
+-- not empty; and what every routine that keeps the demands gives of cases 1, 3 and 12.
 -- Assumes nothing.
 use mathlib.Core.Path.{_≡_, refl, _∙_, sym, ap, subst}
 use mathlib.Core.Bool.{true, true≢false}
-use mathlib.Core.List.{List, [], _∷_, List·Memᴰ}
-use mathlib.Core.Logic.{inl, inr, dite}
-use Prim.Native.Nat.{ℕ, _+_, _*_, _-_, _≤_}
+use mathlib.Core.List.{List, [], _∷_}
+use mathlib.Core.Logic.{inl, inr, _↔_, dite}
+use Prim.Native.Nat.{ℕ, _+_, _*_, _-_, _≤_, _<_, zero-le}
 use native.Mathlib.Decide.{ℕ-discrete}
 use native.Mathlib.Omega.{arith}
 use lib.Dec.{lit≤}
-use lib.ListN.{length, getD-replicate, length-replicate}
+use lib.ListN.{length, getD, replicate, getD-replicate, length-replicate, List·getD-append}
+use lib.Seq.{getD-append-add}
 use Rattle.laws.specs.DivisorLaws.{euclid}
 use Rattle.terms.specs.declared.Frame.{Frame}
-use Rattle.terms.specs.declared.Answer.{Answer}
-use Rattle.terms.specs.declared.Answer.the-variants.{Done, Length, Bound}
-use Rattle.terms.specs.Answers.{numberOf, placeOf}
-use Rattle.terms.specs.Ranges.{Between, SettingsInRange, SignalInRange, Repetition}
-use Rattle.terms.specs.RepetitionLaws.{repetition-positive, repetition-multiple}
-use Rattle.age.specs.Age.{Age, Release, Carries, firstStart, spanOf}
-use Rattle.age.specs.AgeLaws.{age-unique}
+use Rattle.terms.specs.Ranges.{Between, FrameInRange}
 use Rattle.age.specs.AgeTests.{age-test}
-use Rattle.rule.specs.Rule.{Keeps, segment, Largest}
+use Rattle.rule.specs.Rule.{Keeps, segment}
 use Rattle.cycles.specs.Frames.{Names}
-use Rattle.cycles.specs.FrameLaws.{named-remainder}
-use Rattle.planner.specs.Lists.{CountInRange, signalAt, EachSignal, Kept, LowestWithout, Repetitions}
-use Rattle.planner.specs.Planned.{Planned}
-use Rattle.planner.specs.Planned.Planned.{refused, done}
-use Rattle.planner.specs.Filled.{Place, unitFrames, needed, unitLoad, filled}
-use Rattle.planner.specs.LoadLaws.{nothing-left}
-use Rattle.planner.specs.JudgedLaws.{needed-same}
-use Rattle.planner.specs.CoverLaws.{filled-own}
-use Rattle.cycles.specs.Loads.{slotsFor}
-use Rattle.filling.specs.Sums.{sum, total}
-use Rattle.filling.specs.SumLaws.{sum-zero}
+use Rattle.filling.specs.Sums.{sum, total, same}
+use Rattle.planner.specs.Lists.{count, signalAt, EachSignal, Kept, Repetitions}
+use Rattle.planner.specs.Filled.{unitFrames, needed}
 use Rattle.book.specs.Reading.{sound, judged, lengthRight}
-use Rattle.book.proofs.SoundLaws.{facts-sound}
-use Rattle.book.proofs.WrittenLaws.{written-sound}
-use Rattle.editor.specs.BookPlan.{BookPlanned}
-use Rattle.editor.specs.BookPlan.BookPlanned.{unread}
-use Rattle.promises.specs.Tables.{Table}
-use Rattle.promises.specs.Changes.{RaisedSignal, Raised, Struck}
-use Rattle.promises.specs.Changes.Struck.{end, kept, struck}
-use Rattle.promises.specs.Shows.{Shows}
-use Rattle.promises.specs.Inputs.{settings, fresh, stale, case1, case3, twice, blank, case1-book}
-use Rattle.promises.proofs.Named.{fresh-valid, fresh-gets, stale-gets, case1-table, case1-ready, case3-ready, at-one, settings-words, case1-words}
-use Rattle.promises.proofs.Demand3.{Ready, accepted, refused-exactly}
-use Rattle.promises.proofs.Demand1.{planning-exactly}
-use Rattle.promises.proofs.Demand2.{accepted-shows}
-use Rattle.promises.proofs.Shams.{refuses-all, writes-nothing}
+use Rattle.promises.specs.Calls.{Request, PlanRoom, Return, Routine}
+use Rattle.promises.specs.Shows.{frameOf, ageOf, cellOf, Sends, overWords}
+use Rattle.promises.specs.Demand1.{Demand1Planning}
+use Rattle.promises.specs.Demand2.{AgeShown, TableShown, Demand2Planning, GivenBack}
+use Rattle.promises.specs.Tables.{Table, slotsUsed}
+use Rattle.promises.specs.Demand3.{AcceptedPlan, Ready, Demand3}
+use Rattle.promises.specs.Rows.{Needed, planningRows}
+use Rattle.promises.specs.Inputs.{settings, asked, fresh, case1, case3, blank, case1-results, case1-cells, sixty-four, case1-book}
+use Rattle.promises.proofs.Named.{Gets, fresh-gets, fresh-keeps, fresh-valid, one, at-one, slot1, case1-table, case1-ready, case3-ready, case1-holds}
+use Rattle.promises.proofs.Clock.{starts-named, starts-shown}
+use Rattle.promises.proofs.Consequences.{each-number}
+use Rattle.promises.proofs.Examples.{kept-no}
+use Rattle.promises.proofs.Fewest.{needed-least}
+use Rattle.promises.proofs.Releasing.{releases}
+use Rattle.promises.proofs.Shams.{refuses-all}
 
--- ---- ranges
+-- ---- tables
 
-pub settings-yes : SettingsInRange settings
-settings-yes = fresh-valid .settings
-
--- one slot is too few
-pub settings-no : SettingsInRange (record { cycle = 2500; slot = 16; slots = 1; packing = 0; payload = 8 }) → ⊥
-settings-no h = omega (arith, h .1 .1 .0 .0)
-
-pub signal-yes : SignalInRange settings fresh
-signal-yes = fresh-valid .signal
-
--- the offset is below the period
-pub signal-no : SignalInRange settings (record { unit = 1; period = 2500; offset = 2500; size = 16; bound = 2500 }) → ⊥
-signal-no h = omega (arith, h .offset)
-
-pub count-yes : CountInRange case1
-count-yes = record { whole = refl; few = lit≤ tt }
-
-pub count-no : CountInRange (1 ∷ 2500 ∷ 0 ∷ 16 ∷ []) → ⊥
-count-no h = omega (arith, h .whole)
-
--- ---- releases, carrying frames, ages
-
-pub release-yes : Release 15 2500 5015
-release-yes = (2, refl)
-
-pub release-no : Release 15 2500 5016 → ⊥
-release-no r = omega (arith, r .1)
-
--- a frame start equal to the release plus packing time carries the value; the next one does not
-pub carries-yes : Carries 0 2500 100 2400 2500
-carries-yes = record { start = (1, refl); packed = lit≤ tt; earliest = λ u s l. l }
-
-pub carries-no : Carries 0 2500 100 2400 5000 → ⊥
-carries-no h = omega (arith, h .earliest 2500 (1, refl) (lit≤ tt))
-
--- case 3: the age in slot 1 is 2,501, and no other number is
-abbrev slot1 : Frame
-slot1 = record { slot = 1; repetition = 1; base = 0 }
-
-pub age-yes : Age settings stale slot1 2501
-unfolding euclid
-age-yes = age-test settings stale slot1 2501 .1 tt .1
-
-pub age-no : Age settings stale slot1 2485 → ⊥
-age-no h =
-    omega (arith, age-unique (firstStart settings slot1) (spanOf settings slot1) 0 16 15 2500 2485 2501 h age-yes)
-
--- ---- repetitions, cycles and the rule
-
-pub repetition-yes : Repetition 64
-repetition-yes = (6, lit≤ tt, refl)
-
-pub repetition-no : Repetition 3 → ⊥
-repetition-no r = let whole = repetition-multiple 3 64 r repetition-yes (lit≤ tt) in omega (arith, whole .1)
-
-pub names-yes : Names 4 1 61
-names-yes = record { repetition = (2, lit≤ tt, refl); base = lit≤ tt; again = (15, refl) }
-
-pub names-no : Names 4 1 62 → ⊥
-names-no n = omega (arith, named-remainder n)
-
-pub kept-yes : Kept settings fresh
-kept-yes = let keeps = fresh-gets .has (λ e. omega (arith, e)) in (1, keeps .0, keeps .1)
-
-pub kept-no : Kept settings stale → ⊥
-kept-no k = omega (arith, stale-gets .largest (k .0) (k .1) (k .2), repetition-positive (k .0) (k .1))
-
--- ---- tables and what planning rests on
-
-pub table-yes : Table settings case1 (λ i. 1) (λ i. 1) (λ i. 0)
+pub table-yes : Table settings case1 (λ i. slot1)
 table-yes = case1-table
 
-pub table-no : (R slot base : ℕ → ℕ) → Table settings case3 R slot base → ⊥
-table-no R slot base t =
+pub table-no : (frame : ℕ → Frame) → Table settings case3 frame → ⊥
+table-no frame t =
     let b : Between 1 1 1 = (lit≤ tt, lit≤ tt) in
-    kept-no (R 1, t .repetition 1 b, t .keeps 1 b)
+    kept-no (frame 1 .repetition, t .frames 1 b .repetition, t .keeps 1 b)
 
-pub ready-yes : Ready settings case1 blank (0 ∷ 0 ∷ 0 ∷ 0 ∷ [])
-ready-yes = case1-ready blank (0 ∷ 0 ∷ 0 ∷ 0 ∷ []) (omega (arith, length-replicate {A = ℕ} 5952 0)) (lit≤ tt)
+abbrev lent : List ℕ → PlanRoom
+lent results = record { cells = blank; results = results }
 
-pub ready-no : Ready settings case1 blank [] → ⊥
-ready-no h = omega (arith, h .results-room)
+pub ready-yes : Ready overWords (asked case1) (lent (0 ∷ 0 ∷ 0 ∷ 0 ∷ []))
+ready-yes = case1-ready (lent (0 ∷ 0 ∷ 0 ∷ 0 ∷ [])) (omega (arith, length-replicate {A = ℕ} 5952 0)) (lit≤ tt)
 
--- ---- raised and struck
+pub ready-no : Ready overWords (asked case1) (lent []) → ⊥
+ready-no h = omega (arith, h .enough .1)
 
--- case 1 with a bound of 2,000
-abbrev lower : List ℕ
-lower = 1 ∷ 2500 ∷ 0 ∷ 16 ∷ 2000 ∷ []
+-- ---- the plan of case 1
 
-pub raised-yes : Raised lower case1
-raised-yes =
+abbrev word : ℕ → ℕ
+word p = getD case1-results p 0
+
+abbrev frame : ℕ → Frame
+frame i = frameOf word i
+
+in-range : (i : ℕ) → Between 1 1 i → FrameInRange settings (frame i)
+in-range = at-one (λ i. FrameInRange settings (frame i)) (record { slot = (lit≤ tt, lit≤ tt); repetition = one; base = lit≤ tt })
+
+pub age-shown-yes : AgeShown settings fresh (frame 1) 16
+unfolding euclid
+age-shown-yes =
     record {
-      same-length = refl;
-      each = at-one (λ i. RaisedSignal (signalAt lower i) (signalAt case1 i))
-          (record { unit = refl; period = refl; offset = refl; size = refl; raised = lit≤ tt; most = lit≤ tt });
+      releases = releases 0 2500 (lit≤ tt);
+      frame = in-range 1 (lit≤ tt, lit≤ tt);
+      starts = starts-named settings (frame 1) (in-range 1 (lit≤ tt, lit≤ tt));
+      is-age = age-test settings fresh (frame 1) 16 .1 tt .1;
     }
 
-pub raised-no : Raised case1 lower → ⊥
-raised-no h = omega (arith, h .each 1 (lit≤ tt, lit≤ tt) .raised)
+-- no age of a frame that is none of the segment
+pub age-shown-no : (age : ℕ) → AgeShown settings fresh (record { slot = 94; repetition = 1; base = 0 }) age → ⊥
+age-shown-no age h = omega (arith, h .frame .slot)
 
-pub struck-yes : Struck twice case1
-struck-yes = struck (kept end)
+-- slot 1 shows signal 1 in every cycle, and the others nothing
+in-front : (j : ℕ) → j < 64 → getD case1-cells j 0 ≡ 1
+in-front j h =
+    List·getD-append (replicate 64 1) (replicate 5888 0) 0 j (omega (arith, h, length-replicate {A = ℕ} 64 1)) ∙ getD-replicate 64 j 1 0 h
 
-shorter : {l l′ : List ℕ} → Struck l l′ → length l′ ≤ length l
-shorter end = lit≤ tt
-shorter (kept s) = omega (arith, shorter s)
-shorter (struck s) = omega (arith, shorter s)
+behind : (j : ℕ) → 64 ≤ j → j < 5952 → getD case1-cells j 0 ≡ 0
+behind j l h =
+    let at : j ≡ length {A = ℕ} (replicate 64 1) + (j - 64) = omega (arith, l, length-replicate {A = ℕ} 64 1) in
+    ap (λ (n : ℕ). getD case1-cells n 0) at
+    ∙ getD-append-add (replicate 64 1) (replicate 5888 0) (j - 64) 0
+    ∙ getD-replicate 5888 (j - 64) 0 0 (omega (arith, l, h))
 
-pub struck-no : Struck case1 twice → ⊥
-struck-no s = omega (arith, shorter s)
+every : (c : ℕ) → Names 1 0 c
+every c = record { repetition = one; base = lit≤ tt; again = (c, omega arith) }
 
--- ---- outcomes of planning
+here : (k c : ℕ) → Between 1 93 k → c < 64 → cellOf case1-cells k c ≡ 1 → 1 ≡ k
+here k c b l e = dite (ℕ-discrete k 1) sym (λ n. absurd (omega (arith, e, behind (64 * (k - 1) + c) (omega arith) (omega arith))))
 
-module _ (cells results : List ℕ) (room : 5952 ≤ length cells) (words : 4 ≤ length results) where
-  case1-repetitions : Repetitions settings case1 (λ i. 1)
-  case1-repetitions = at-one (λ i. Largest (Keeps settings (signalAt case1 i) (segment settings)) 1) fresh-gets
+there : (k c : ℕ) → c < 64 → 1 ≡ k → cellOf case1-cells k c ≡ 1
+there k c l e = in-front (64 * (k - 1) + c) (omega arith)
 
-  -- case 1 is accepted, in one slot
-  pub case1-accepted : (a : Answer) (cells′ results′ : List ℕ) → Planned settings case1 cells results a cells′ results′
-      → (numberOf a ≡ 0) × (placeOf a ≡ 1)
-  unfolding sum total unitFrames
-  case1-accepted a cells′ results′ p =
-      let ready = case1-ready cells results room words in
-      let number : numberOf a ≡ 0 =
-      dite (ℕ-discrete (numberOf a) 0) (λ e. e)
-      (λ n. absurd (refuses-all a n (refused-exactly settings case1 cells results ready a cells′ results′ p))) in
-      let k = accepted settings case1 cells results ready a cells′ results′ p number in
-      (number, k .place ∙ needed-same settings case1 (k .R) (λ i. 1) (k .repetitions) case1-repetitions)
+cells-show : (k c i : ℕ) → Between 1 93 k → c < 64 → Between 1 1 i → (cellOf case1-cells k c ≡ i) ↔ Sends (frame i) k c
+cells-show k c i b l =
+    at-one (λ i. (cellOf case1-cells k c ≡ i) ↔ Sends (frame i) k c) ((λ e. (here k c b l e, every c)), λ s. there k c l (s .0)) i
 
-  not-each : EachSignal case3 (Kept settings) → ⊥
-  not-each k = kept-no (k 1 (lit≤ tt, lit≤ tt))
+pub table-shown-yes : TableShown settings 1 frame case1-cells
+table-shown-yes =
+    record {
+      shown = cells-show;
+      empty = λ k c b l. (
+        (λ e i at s. at-one (λ i. Sends (frame i) k c → ⊥) (λ s. omega (arith, e, there k c l (s .0))) i at s),
+        λ none.
+            dite (ℕ-discrete k 1) (λ z. absurd (none 1 (lit≤ tt, lit≤ tt) (sym z, every c)))
+            (λ n. behind (64 * (k - 1) + c) (omega arith) (omega arith)),
+      );
+      clock = starts-shown settings 1 frame case1-cells in-range cells-show;
+    }
 
-  -- case 3 is refused with 8
-  pub case3-refused : (a : Answer) (cells′ results′ : List ℕ) → Planned settings case3 cells results a cells′ results′ → numberOf a ≡ 8
-  case3-refused a cells′ results′ p =
-      let ready = case3-ready cells results room words in
-      planning-exactly settings case3 cells results a cells′ results′ p 8 .1
-      (inr (ready .settings, inr (ready .right, inr ((room, words), inr (ready .signals, inl (not-each, refl))))))
+pub table-shown-no : TableShown settings 1 frame blank → ⊥
+table-shown-no h =
+    let one-there = h .shown 1 0 1 (lit≤ tt, lit≤ tt) (lit≤ tt) (lit≤ tt, lit≤ tt) .1 (refl, every 0) in
+    omega (arith, one-there, getD-replicate {A = ℕ} 5952 0 0 0 (lit≤ tt))
 
-  -- and that outcome is allowed: signal 1, and nothing changed
-  pub case3-outcome : Planned settings case3 cells results (Bound 1) cells results
-  case3-outcome =
-      let ready = case3-ready cells results room words in
-      let lowest : LowestWithout case3 (Kept settings) 1 = record { within = (lit≤ tt, lit≤ tt); fails = kept-no; before = λ j l h. absurd (omega (arith, l, h)) } in
-      refused (inr (ready .settings, inr (ready .right, inr (room, inr (words, inr (ready .signals, inl (not-each, (1, lowest, refl))))))))
+case1-repetitions : Repetitions settings case1 (λ i. 1)
+case1-repetitions = at-one (λ i. Gets (signalAt case1 i) 1) fresh-gets
 
--- ---- case 12: the empty list is accepted, with 0 slots and a table all 0
+needs-one : needed case1 (λ i. 1) ≡ 1
+unfolding sum total unitFrames
+needs-one = refl
 
-nothing : (i : ℕ) → Between 1 0 i → ⊥
-nothing i b = omega (arith, b .0, b .1)
+-- no table of case 1 uses fewer slots than one, and there is one that uses one
+one-least : (other : ℕ → Frame) → Table settings case1 other → 1 ≤ slotsUsed 93 1 other
+one-least other t =
+    subst (λ (n : ℕ). n ≤ slotsUsed 93 1 other) needs-one (needed-least settings case1 (λ i. 1) other case1-repetitions t)
 
-none-needed : (R : ℕ → ℕ) → needed [] R ≡ 0
-none-needed R = sum-zero (λ u. slotsFor (unitLoad [] R u)) 256 (λ u h. ap slotsFor (nothing-left [] R u 1))
+uses-one : slotsUsed 93 1 (λ i. slot1) ≡ 1
+unfolding sum same
+uses-one = refl
 
-none-placed : (p : Place) → List·Memᴰ p (filled [] (λ i. 1)) → ⊥
-none-placed p m = let b = filled-own [] (λ i. 1) (λ i b. absurd (nothing i b)) p m in omega (arith, b .0, b .1)
-
-pub case12-outcome : Planned settings [] blank [] (Done 0) blank []
-case12-outcome =
-    subst (λ (n : ℕ). Planned settings [] blank [] (Done n) blank []) (none-needed (λ i. 1))
-    (done (λ i. 1)
-    (settings-yes, (record { whole = refl; few = lit≤ tt }, (omega (arith, length-replicate {A = ℕ} 5952 0), (lit≤ tt, ((λ i b. absurd (nothing i b)), ((λ i b. absurd (nothing i b)), ((λ R r. omega (arith, none-needed R)), tt)))))))
-    (record {
-      repetitions = λ i b. absurd (nothing i b);
+pub accepted-yes : AcceptedPlan settings case1 1 frame (ageOf word)
+unfolding sum same
+accepted-yes =
+    record {
+      rule = at-one (λ i. Gets (signalAt case1 i) (frame i .repetition)) fresh-gets;
       table =
           record {
-            same-length = refl;
-            holds = λ p c m l n. absurd (none-placed p m);
-            empty = λ k c b l n. getD-replicate 5952 (64 * (k - 1) + c) 0 0 (omega (arith, b, l));
-            later = λ j l. refl;
+            frames = in-range;
+            keeps = at-one (λ i. Keeps settings (signalAt case1 i) (segment settings) (frame i .repetition)) fresh-keeps;
+            apart = λ i j k c a b l m n. omega (arith, a, b);
+            one-unit = λ i j a b e. let same-one : i ≡ j = omega (arith, a, b) in ap (λ (k : ℕ). signalAt case1 k .unit) same-one;
           };
-      shown =
-          record {
-            same-length = refl;
-            slot = λ p m. absurd (none-placed p m);
-            base = λ p m. absurd (none-placed p m);
-            repetition = λ p m. absurd (none-placed p m);
-            age = λ p m. absurd (none-placed p m);
-            later = λ j l. refl;
-          };
-    }))
+      bounds = at-one (λ i. ageOf word i ≤ signalAt case1 i .bound) (lit≤ tt);
+      used = refl;
+      fewest = one-least;
+    }
 
--- what demand 2 asks of a plan: case 12's shows it, and case 1's is not shown by a table left blank
-pub shows-yes : Shows settings [] blank [] blank []
-shows-yes = accepted-shows settings [] blank [] (Done 0) blank [] case12-outcome refl
+-- repetition 64, over the bound; and two slots claimed
+pub accepted-no-64 : (place : ℕ) → AcceptedPlan settings case1 place (frameOf (λ p. getD sixty-four p 0)) (ageOf (λ p. getD sixty-four p 0)) → ⊥
+accepted-no-64 place h = omega (arith, h .bounds 1 (lit≤ tt, lit≤ tt))
 
-pub shows-no : (results : List ℕ) → Shows settings case1 blank results blank results → ⊥
-shows-no results h = writes-nothing results (Done 0) refl (λ z. h)
+pub accepted-no-two : AcceptedPlan settings case1 2 frame (ageOf word) → ⊥
+accepted-no-two h = omega (arith, h .used, accepted-yes .used)
+
+-- ---- cases 1, 3 and 12, of every routine that keeps the demands
+
+module _ (Gives : Routine Request PlanRoom) (l : PlanRoom) (y : Return PlanRoom) (cells : 5952 ≤ length (l .cells)) where
+  -- case 1 is accepted, in one slot
+  pub case1-accepted : Demand3 overWords Gives → 4 ≤ length (l .results) → Gives (asked case1) l y → (y .number ≡ 0) × (y .place ≡ 1)
+  case1-accepted keeps results g =
+      let number : y .number ≡ 0 = dite (ℕ-discrete (y .number) 0) (λ e. e) (λ n. absurd (refuses-all Gives keeps l y cells results g n)) in
+      let a = keeps .accepted (asked case1) l y g number in
+      (number, omega (arith, a .fewest (λ i. slot1) case1-table, uses-one, one-least _ (a .table), a .used))
+
+  -- case 3 is refused with 8, at signal 1
+  pub case3-refused : Demand1Planning Gives → 4 ≤ length (l .results) → Gives (asked case3) l y → y .number ≡ 8
+  case3-refused keeps results g =
+      let h = case3-ready l cells results in
+      each-number planningRows (λ x. Needed (x .settings) (x .list)) Gives keeps (asked case3) l y g 8 .1
+      (inr (h .settings, inr (h .whole, inr (cells, inr (results, inr (h .signals, inl ((λ k. kept-no (k 1 (lit≤ tt, lit≤ tt))), refl)))))))
+
+  -- case 12: the empty list is done, with a table all 0
+  pub case12-done : Demand3 overWords Gives → Demand2Planning Gives → Gives (asked []) l y
+      → (y .number ≡ 0) × ((k c : ℕ) → Between 1 93 k → c < 64 → cellOf (y .lent .cells) k c ≡ 0)
+  case12-done three two g =
+      let none : (i : ℕ) → Between 1 0 i → ⊥ = λ i b. omega (arith, b .0, b .1) in
+      let ready : Ready overWords (asked []) l =
+      record {
+        settings = fresh-valid .settings;
+        whole = record { whole = refl; few = lit≤ tt };
+        signals = λ i b. absurd (none i b);
+        enough = (cells, zero-le);
+      } in
+      let table : Table settings [] (λ i. slot1) =
+      record {
+        frames = λ i b. absurd (none i b);
+        keeps = λ i b. absurd (none i b);
+        apart = λ i j k c a. absurd (none i a);
+        one-unit = λ i j a. absurd (none i a);
+      } in
+      let number : y .number ≡ 0 =
+      dite (ℕ-discrete (y .number) 0) (λ e. e)
+      (λ n. absurd (three .refused-exactly (asked []) l y g ready .0 n (λ i. slot1) table)) in
+      (number, λ k c b h. two .table (asked []) l y g number .empty k c b h .1 (λ i at. absurd (none i at)))
 
 -- ---- books
 
 pub sound-yes : sound case1-book ≡ true
-sound-yes = facts-sound case1-book (written-sound settings case1 settings-words case1-words refl (lit≤ tt))
+sound-yes = case1-holds .whole
 
 pub sound-no : sound [] ≡ true → ⊥
 unfolding sound judged lengthRight
 sound-no e = true≢false (sym e)
 
--- the editor's call on no bytes at all is refused with 1
-pub no-book-outcome : (results : List ℕ) → BookPlanned [] results Length results
-unfolding sound judged lengthRight
-no-book-outcome results = unread refl
+pub given-back-yes : GivenBack (asked case1) (7 ∷ 7 ∷ 7 ∷ 7 ∷ 7 ∷ 7 ∷ []) settings (record { number = 0; place = 1; lent = 1 ∷ 2500 ∷ 0 ∷ 16 ∷ 2500 ∷ 7 ∷ [] })
+given-back-yes = record { accepted = refl; signals = refl; settings = refl; words = refl }
+
+-- a reader that writes over what lies behind
+pub given-back-no :
+    GivenBack (asked case1) (7 ∷ 7 ∷ 7 ∷ 7 ∷ 7 ∷ 7 ∷ []) settings (record { number = 0; place = 1; lent = 1 ∷ 2500 ∷ 0 ∷ 16 ∷ 2500 ∷ 0 ∷ [] }) → ⊥
+given-back-no h = omega (arith, ap (λ (l : List ℕ). getD l 5 0) (h .words))

@@ -12,6 +12,7 @@ use lib.Arith.{lt-of-le-ne}
 use lib.Dec.{eqb}
 use borrow.Author.Tests.{eq-eqb, ne-eqb}
 use Rattle.terms.specs.declared.Settings.{Settings}
+use Rattle.terms.specs.declared.Frame.{Frame}
 use Rattle.terms.specs.Ranges.{Between, Repetition}
 use Rattle.cycles.specs.Frames.{Names}
 use Rattle.filling.specs.FrameWords.{exponent}
@@ -103,7 +104,16 @@ module _ (list : List ℕ) (R slot base : ℕ → ℕ) where
 one-add : (k : ℕ) → 1 + k ≡ suc k
 one-add k = omega arith
 
-module _ (s : Settings) (list : List ℕ) (R slot base : ℕ → ℕ) (t : Table s list R slot base) where
+module _ (s : Settings) (list : List ℕ) (frame : ℕ → Frame) (t : Table s list frame) where
+  abbrev R : ℕ → ℕ
+  R i = frame i .repetition
+
+  abbrev slot : ℕ → ℕ
+  slot i = frame i .slot
+
+  abbrev base : ℕ → ℕ
+  base i = frame i .base
+
   abbrev all : List Owned
   all = owned list R slot base (count list) 1
 
@@ -127,22 +137,22 @@ module _ (s : Settings) (list : List ℕ) (R slot base : ℕ → ℕ) (t : Table
       placed : (j : ℕ) → Between 1 (count list) j → Valid (s .slots + 1) (placedAt list R slot base j)
       placed j b =
           record {
-            exponent = exponent-most (t .repetition j b);
-            base = subst (λ (n : ℕ). base j < n) (repetition-power (t .repetition j b)) (t .base-below j b);
-            slot = omega (arith, t .within j b);
+            exponent = exponent-most (t .frames j b .repetition);
+            base = subst (λ (n : ℕ). base j < n) (repetition-power (t .frames j b .repetition)) (t .frames j b .base);
+            slot = omega (arith, t .frames j b .slot);
           }
 
       at : (j k c : ℕ) → Between 1 (count list) j → cell (placedAt list R slot base j) k c ≡ 1 → (slot j ≡ k) × Names (R j) (base j) c
       at j k c b e =
           let h = cell-takes (placedAt list R slot base j) k c e in
-          (h .0, names-by (R j) (base j) c (t .repetition j b) (t .base-below j b) (h .1))
+          (h .0, names-by (R j) (base j) c (t .frames j b .repetition) (t .frames j b .base) (h .1))
 
       same-signal : (k c i j : ℕ) → c < 64 → i < count list → j < count list
           → cell (placedAt list R slot base (1 + i)) k c ≡ 1 → cell (placedAt list R slot base (1 + j)) k c ≡ 1 → i ≡ j
       same-signal k c i j h a b d e =
           let p = at (1 + i) k c (omega arith) d in
           let q = at (1 + j) k c (omega arith) e in
-          omega (arith, t .apart (1 + i) (1 + j) c (omega arith) (omega arith) h (p .0 ∙ sym (q .0)) (p .1) (q .1))
+          omega (arith, t .apart (1 + i) (1 + j) k c (omega arith) (omega arith) h p q)
 
       once : (k c : ℕ) → c < 64 → sum (λ j. cell (placedAt list R slot base (1 + j)) k c) (count list) ≤ 1
       once k c h =
@@ -150,13 +160,13 @@ module _ (s : Settings) (list : List ℕ) (R slot base : ℕ → ℕ) (t : Table
           (λ i l. cell-most (placedAt list R slot base (1 + i)) k c) (λ i j a b. same-signal k c i j h a b)
 
   -- the slots that it uses
-  pub used-slots : used (frames all) (s .slots + 1) ≡ slotsUsed (s .slots) (count list) slot
+  pub used-slots : used (frames all) (s .slots + 1) ≡ slotsUsed (s .slots) (count list) frame
   used-slots =
       ap (used (frames all)) (add-one (s .slots))
       ∙ sum-first (tables.taken (frames all)) (s .slots)
       ∙ ap (λ (n : ℕ). n + sum (λ k. tables.taken (frames all) (suc k)) (s .slots)) none
       ∙ zero-add (sum (λ k. tables.taken (frames all) (suc k)) (s .slots))
-      ∙ sum-ext (λ k. tables.taken (frames all) (suc k)) (λ k. taken (count list) slot (1 + k)) (s .slots) (λ k h. alike k)
+      ∙ sum-ext (λ k. tables.taken (frames all) (suc k)) (λ k. taken (count list) frame (1 + k)) (s .slots) (λ k h. alike k)
     where
       in-slot : (k : ℕ) → total (λ p. same (p .slot) k) (frames all) ≡ sum (λ i. same (slot (1 + i)) k) (count list)
       in-slot k = total-owned list R slot base (λ p. same (p .slot) k) (count list) 1
@@ -166,7 +176,7 @@ module _ (s : Settings) (list : List ℕ) (R slot base : ℕ → ℕ) (t : Table
           ap (min 1)
           (each-apart 0 (frames all)
           (each-frames list R slot base (λ p. p .slot ≡ 0 → ⊥) (count list) 1
-          (λ j a b z. omega (arith, t .within j (a, omega arith)))))
+          (λ j a b z. omega (arith, t .frames j (a, omega arith) .slot))))
 
-      alike : (k : ℕ) → tables.taken (frames all) (suc k) ≡ taken (count list) slot (1 + k)
+      alike : (k : ℕ) → tables.taken (frames all) (suc k) ≡ taken (count list) frame (1 + k)
       alike k = ap (min 1) (in-slot (suc k) ∙ ap (λ (n : ℕ). sum (λ i. same (slot (1 + i)) n) (count list)) (sym (one-add k)))

@@ -1,37 +1,51 @@
--- Where the filling places signals: each signal once, within the slots needed, at a base below its repetition, and no
--- slot to two units.
+-- Where the filling places signals: within the slots needed, at a base below its repetition, no slot to two units and no cell
+-- to two signals.
 -- Assumes nothing.
-use mathlib.Core.Path.{_≡_, refl, _∙_, sym, ap, subst}
-use mathlib.Core.List.{List, [], _∷_, _++_, List·Memᴰ, List·Memᴰ·head, List·Memᴰ·tail, List·Memᴰ·not-nil, List·Memᴰ·append-cases, Memᴰ·append-left, Memᴰ·append-right}
-use mathlib.Core.Logic.{dite, ⊎-elim}
-use Prim.Native.Nat.{ℕ, zero, suc, _+_, _≤_, _<_}
-use native.Mathlib.Decide.{ℕ-discrete}
-use native.Mathlib.Nat.{eq-or-lt-of-le}
-use lib.Arith.{lt-of-le-ne}
+use mathlib.Core.Path.{_≡_, _∙_, sym, ap, subst}
+use mathlib.Core.List.{List, [], _∷_, _++_, List·Memᴰ, List·Memᴰ·head, List·Memᴰ·tail, List·Memᴰ·not-nil, List·Memᴰ·append-cases}
+use mathlib.Core.Logic.{⊎-elim}
+use Prim.Native.Nat.{ℕ, zero, suc, _+_, _*_, _/_, _%_, _^_, _≤_, _<_}
 use native.Mathlib.Omega.{arith}
-use Rattle.terms.specs.Ranges.{Between, Repetition}
+use Rattle.terms.specs.declared.Settings.{Settings}
+use Rattle.terms.specs.declared.Frame.{Frame}
+use Rattle.terms.specs.Ranges.{Between, FrameInRange, Repetition}
+use Rattle.cycles.specs.Frames.{Names}
+use Rattle.cycles.specs.FrameLaws.{named-remainder}
 use Rattle.filling.specs.declared.UnitFrame.{UnitFrame}
 use Rattle.filling.specs.FewestLaws.{end-grows, start-past, run-table}
 use Rattle.filling.specs.FillLaws.{repetition-power}
 use Rattle.filling.specs.FrameWords.{exponent, exponents}
 use Rattle.filling.specs.Ordered.{ordered}
-use Rattle.filling.specs.OrderedLaws.{members-ordered}
 use Rattle.filling.specs.Plans.{last, planEnd}
+use Rattle.filling.specs.Rows.{takes}
 use Rattle.filling.specs.Runs.{State, start, run, placed, after}
+use Rattle.filling.specs.SumLaws.{same-equal}
 use Rattle.filling.specs.Tables.{Each, Valid}
 use Rattle.filling.specs.Tables.Each.{empty, entry}
 use Rattle.filling.specs.TableLaws.{each-both, each-map}
 use Rattle.planner.specs.Lists.{count, signalAt}
-use Rattle.planner.specs.Filled.{Place, unitFrames, framesOfUnit, placesOf, unitsPlaced}
-use Rattle.planner.specs.Shown.{exponentsOf}
-use Rattle.planner.specs.GatherLaws.{frames-own, frames-other}
-use Rattle.planner.specs.OnceLaws.{rising}
+use Rattle.planner.specs.Filled.{Place, framesOfUnit, placesOf, unitsPlaced, needed, filled}
+use Rattle.planner.specs.Shown.{exponentsOf, sentOf}
+use Rattle.planner.specs.CoverLaws.{filled-own}
+use Rattle.planner.specs.OnceLaws.{rising, takesCell, cells-once, slots-needed}
 use Rattle.planner.specs.OwnLaws.{OwnFrame, ordered-own}
-use Rattle.planner.specs.WroteLaws.{each-at}
+use Rattle.planner.specs.WroteLaws.{each-at, Apart, apart-once}
+use Rattle.planner.specs.WroteLaws.Apart.{beside}
+
+-- of entries that are apart, two at one place are the same
+apart-same : {A : Type 0} {At : A → ℕ → Type 0} {xs : List A} → Apart At xs → {p q : A} → List·Memᴰ p xs → List·Memᴰ q xs → (j : ℕ) → At p j → At q j → p ≡ q
+apart-same (beside n a) (List·Memᴰ·head e) (List·Memᴰ·head f) j x y = e ∙ sym f
+apart-same {At = At} (beside n a) {q = q} (List·Memᴰ·head e) (List·Memᴰ·tail m) j x y = absurd (n q j m (subst (λ z. At z j) e x) y)
+apart-same {At = At} (beside n a) {p = p} (List·Memᴰ·tail m) (List·Memᴰ·head f) j x y = absurd (n p j m (subst (λ z. At z j) f y) x)
+apart-same (beside n a) (List·Memᴰ·tail m) (List·Memᴰ·tail k) j x y = apart-same a m k j x y
 
 each-append : {A : Type 0} (P : A → Type 0) (a b : List A) → Each P a → Each P b → Each P (a ++ b)
 each-append P [] b empty q = q
 each-append P (x ∷ a) b (entry p ps) q = entry p (each-append P a b ps q)
+
+-- the frame of a place
+abbrev pub frameAt : (R : ℕ → ℕ) → Place → Frame
+frameAt R p = record { slot = p .slot; repetition = R (p .signal); base = p .base }
 
 module _ (list : List ℕ) (R : ℕ → ℕ) (seven : (i : ℕ) → Between 1 (count list) i → Repetition (R i)) where
   -- a place of a run after k slots that ends with slot e, of unit u
@@ -68,11 +82,11 @@ module _ (list : List ℕ) (R : ℕ → ℕ) (seven : (i : ℕ) → Between 1 (c
       (run-table k (exponentsOf list R u) (rising list R seven u) .valid))
 
   -- all places: within the slots begun before and at the end
-  pub record InPlan (k e : ℕ) (p : Place) : Type 0 where
-    pub signal : Between 1 (count list) (p .signal)
-    pub base : p .base < R (p .signal)
-    pub low : k < p .slot
-    pub high : p .slot ≤ e
+  record InPlan (k e : ℕ) (p : Place) : Type 0 where
+    signal : Between 1 (count list) (p .signal)
+    base : p .base < R (p .signal)
+    low : k < p .slot
+    high : p .slot ≤ e
 
   plan-end-grows : (n u k : ℕ) → k ≤ planEnd (exponentsOf list R) n u k
   unfolding planEnd
@@ -80,7 +94,7 @@ module _ (list : List ℕ) (R : ℕ → ℕ) (seven : (i : ℕ) → Between 1 (c
   plan-end-grows (suc n) u k =
       omega (arith, plan-end-grows n (suc u) (last k (exponentsOf list R u)), end-grows (start k) (exponentsOf list R u))
 
-  pub in-plan : (n u k : ℕ) → Each (InPlan k (planEnd (exponentsOf list R) n u k)) (unitsPlaced list R n u k)
+  in-plan : (n u k : ℕ) → Each (InPlan k (planEnd (exponentsOf list R) n u k)) (unitsPlaced list R n u k)
   unfolding unitsPlaced planEnd
   in-plan zero u k = empty
   in-plan (suc n) u k =
@@ -119,41 +133,37 @@ module _ (list : List ℕ) (R : ℕ → ℕ) (seven : (i : ℕ) → Between 1 (c
       there : (x : Place) → List·Memᴰ x (unitsPlaced list R n (suc u) j) → InPlan j (planEnd (exponentsOf list R) n (suc u) j) x
       there x m = each-at (in-plan n (suc u) j) m
 
-  -- each signal has a frame in its unit
-  frame-of : (u n j i : ℕ) → j ≤ i → i < j + n → signalAt list i .unit ≡ u → List·Memᴰ (record { signal = i; repetition = R i }) (unitFrames list R u n j)
-  frame-of u zero j i l h e = absurd (omega arith)
-  frame-of u (suc n) j i l h e =
-      dite (ℕ-discrete (signalAt list j .unit) u)
-      (λ o.
-      subst (List·Memᴰ (record { signal = i; repetition = R i })) (sym (frames-own list R u n j o))
-      (⊎-elim (λ q. List·Memᴰ·head (λ x. record { signal = sym q x; repetition = R (sym q x) })) (λ m. List·Memᴰ·tail (frame-of u n (suc j) i m (omega arith) e)) (eq-or-lt-of-le l)))
-      (λ d.
-      subst (List·Memᴰ (record { signal = i; repetition = R i })) (sym (frames-other list R u n j d))
-      (frame-of u n (suc j) i (lt-of-le-ne l (λ q. d (ap (λ (x : ℕ). signalAt list x .unit) q ∙ e))) (omega arith) e))
+  -- no cell has two places: j counts the cells, 64 a slot
+  abbrev At : Place → ℕ → Type 0
+  At p j = (p .slot ≡ j / 64) × Names (R (p .signal)) (p .base) (j % 64)
 
-  place-of : (i : ℕ) (fs : List UnitFrame) (t : State) (f : UnitFrame) → List·Memᴰ f fs → f .signal ≡ i
-      → (p : Place) × List·Memᴰ p (placesOf fs (run t (exponents fs))) × (p .signal ≡ i)
-  unfolding run placesOf
-  place-of i (g ∷ fs) t f (List·Memᴰ·head e) q =
-      let p = placed t (exponent (g .repetition)) in
-      (record { signal = g .signal; slot = p .slot; base = p .base }, List·Memᴰ·head refl, ap (λ (x : UnitFrame). x .signal) (sym e) ∙ q)
-  place-of i (g ∷ fs) t f (List·Memᴰ·tail m) q =
-      let r = place-of i fs (after t (exponent (g .repetition))) f m q in
-      (r .0, List·Memᴰ·tail (r .1), r .2)
+  counted : (p : Place) (j : ℕ) → List·Memᴰ p (filled list R) → At p j → 1 ≤ takesCell (sentOf R p) (j / 64) (j % 64)
+  counted p j m at =
+      let e = exponent (R (p .signal)) in
+      let left : p .base ≡ j % 64 % 2 ^ e =
+      sym (named-remainder (at .1)) ∙ ap (λ (n : ℕ). j % 64 % n) (repetition-power (seven (p .signal) (filled-own list R seven p m))) in
+      subst (λ (n : ℕ). 1 ≤ n * takes e (p .base) (j % 64)) (sym (same-equal (p .slot) (j / 64) (at .0)))
+      (subst (λ (n : ℕ). 1 ≤ 1 * n) (sym (same-equal (p .base) (j % 64 % 2 ^ e) left)) (omega arith))
 
-  -- and so a place
-  pub placed-in : (i n u k : ℕ) → Between 1 (count list) i → u ≤ signalAt list i .unit → signalAt list i .unit < u + n
-      → (p : Place) × List·Memᴰ p (unitsPlaced list R n u k) × (p .signal ≡ i)
-  unfolding unitsPlaced
-  placed-in i zero u k b l h = absurd (omega arith)
-  placed-in i (suc n) u k b l h =
-      ⊎-elim
-      (λ e.
-      let f : UnitFrame = record { signal = i; repetition = R i } in
-      let m = each-at (members-ordered (framesOfUnit list R u)) (frame-of u (count list) 1 i (b .0) (omega (arith, b .1)) (sym e)) in
-      let r = place-of i (ordered (framesOfUnit list R u)) (start k) f m refl in
-      (r .0, Memᴰ·append-left (unitsPlaced list R n (suc u) (last k (exponentsOf list R u))) (r .1), r .2))
-      (λ m.
-      let r = placed-in i n (suc u) (last k (exponentsOf list R u)) b m (omega arith) in
-      (r .0, Memᴰ·append-right (placesOf (ordered (framesOfUnit list R u)) (run (start k) (exponentsOf list R u))) (r .1), r .2))
-      (eq-or-lt-of-le l)
+  places-apart : Apart At (filled list R)
+  places-apart =
+      apart-once At (λ p j. takesCell (sentOf R p) (j / 64) (j % 64)) (filled list R) counted
+      (λ j. cells-once list R seven (j / 64) (j % 64) (omega arith))
+
+  pub same-place : (p q : Place) → List·Memᴰ p (filled list R) → List·Memᴰ q (filled list R) → (k c : ℕ) → c < 64
+      → p .slot ≡ k → q .slot ≡ k → Names (R (p .signal)) (p .base) c → Names (R (q .signal)) (q .base) c → p ≡ q
+  same-place p q m n k c l e f x y =
+      let slot : k ≡ (64 * k + c) / 64 = omega arith in
+      let cycle : c ≡ (64 * k + c) % 64 = omega arith in
+      apart-same places-apart m n (64 * k + c)
+      (e ∙ slot, subst (Names (R (p .signal)) (p .base)) cycle x)
+      (f ∙ slot, subst (Names (R (q .signal)) (q .base)) cycle y)
+
+  -- a place lies in a slot that is needed; where there are as many, its frame is one of the segment
+  pub slot-needed : (p : Place) → List·Memᴰ p (filled list R) → p .slot ≤ needed list R
+  slot-needed p m = omega (arith, each-at (in-plan 256 0 0) m .high, slots-needed list R seven)
+
+  pub place-framed : (s : Settings) → needed list R ≤ s .slots → (p : Place) → List·Memᴰ p (filled list R) → FrameInRange s (frameAt R p)
+  place-framed s fits p m =
+      let w = each-at (in-plan 256 0 0) m in
+      record { slot = omega (arith, w .low, slot-needed p m, fits); repetition = seven (p .signal) (w .signal); base = w .base }

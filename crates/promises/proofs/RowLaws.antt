@@ -2,7 +2,7 @@
 -- Assumes nothing.
 use mathlib.Core.Path.{_≡_, refl, sym, ap, subst}
 use mathlib.Core.Bool.{Bool, true, false, true≢false, false≢true}
-use mathlib.Core.List.{List, [], _∷_, List·Memᴰ, List·Memᴰ·head, List·Memᴰ·tail}
+use mathlib.Core.List.{List, [], _∷_, _++_, List·Memᴰ, List·Memᴰ·head, List·Memᴰ·tail}
 use mathlib.Core.Logic.{_⊎_, inl, inr, _↔_, ⊎-elim}
 use Prim.Native.Nat.{ℕ}
 use lib.Dec.{eqb}
@@ -19,7 +19,16 @@ use Rattle.book.specs.declared.Test.{Test}
 use Rattle.book.specs.Blocks.{unless}
 use Rattle.book.specs.Reading.{lengthRight, passes, firstWrong, signalsOf, judged, sound}
 use Rattle.book.proofs.SoundLaws.{unless-passed}
-use Rattle.promises.specs.Rows.{Row, FirstRow, numbers, asked, signalRows, blockRow, countedRow, bookRows}
+use Rattle.promises.specs.Rows.{Row, FirstRow, Hold, signalRows, blockRow, countedRow, bookRows}
+
+-- the numbers of the rows, and each with what must hold
+abbrev pub numbers : List Row → List ℕ
+numbers [] = []
+numbers (r ∷ rs) = r .number ∷ numbers rs
+
+abbrev pub asked : List Row → List (ℕ × Type 0)
+asked [] = []
+asked (r ∷ rs) = (r .number, r .holds) ∷ asked rs
 
 module _ (done : ℕ → Type 0) (n p : ℕ) where
   -- the number is 0 or one of the rows'
@@ -58,11 +67,39 @@ unless-row : (done : ℕ → Type 0) (n : ℕ) (place : ℕ → Type 0) (rs : Li
 unless-row done n place rs true refusal rest e p f h = inr (refl, f h)
 unless-row done n place rs false refusal rest e p f h = inl (false≢true, e, p)
 
--- a book that is not sound is refused by one of the rows of books, and a sound one by none of them
-module _ (book : List ℕ) (rest : List Row) (done : ℕ → Type 0) where
-  pub unsound-row : sound book ≡ false → FirstRow (bookRows book rest) done (numberOf (judged book)) (placeOf (judged book))
+-- a front of rows that hold may be passed
+module _ (rest : List Row) (done : ℕ → Type 0) (n p : ℕ) where
+  pub pass : (front : List Row) → Hold front → FirstRow rest done n p → FirstRow (front ++ rest) done n p
+  pass [] h f = f
+  pass (r ∷ rs) h f = inr (h .0, pass rs (h .1) f)
+
+  pub past : (front : List Row) → Hold front → FirstRow (front ++ rest) done n p → FirstRow rest done n p
+  past [] h f = f
+  past (r ∷ rs) h (inl f) = absurd (f .0 (h .0))
+  past (r ∷ rs) h (inr f) = past rs (h .1) (f .1)
+
+-- a sound book is one whose rows all hold
+module _ (book : List ℕ) where
+  pub sound-rows : sound book ≡ true → Hold (bookRows book)
   unfolding sound judged
-  unsound-row =
+  sound-rows e =
+      let P : Answer → Type 0 = λ a. eqb (numberOf a) 0 ≡ true in
+      let h₁ = unless-passed P _ _ _ e false≢true in
+      let h₂ = unless-passed P _ _ _ (h₁ .1) false≢true in
+      let h₃ = unless-passed P _ _ _ (h₂ .1) false≢true in
+      let h₄ = unless-passed P _ _ _ (h₃ .1) false≢true in
+      let h₅ = unless-passed P _ _ _ (h₄ .1) false≢true in
+      (h₁ .0, (h₂ .0, (h₃ .0, (h₄ .0, (h₅ .0, tt)))))
+
+  pub rows-sound : Hold (bookRows book) → sound book ≡ true
+  unfolding sound judged
+  rows-sound (l, (c, (k, (n, (z, u))))) = simp (l, c, k, n, z)
+
+  -- and any other is refused by one of them, whatever is asked after
+  pub unsound-row : (rest : List Row) (done : ℕ → Type 0) → sound book ≡ false
+      → FirstRow (bookRows book ++ rest) done (numberOf (judged book)) (placeOf (judged book))
+  unfolding sound judged
+  unsound-row rest done =
       let zero = blockRow 5 book Test.Zero ∷ rest in
       let count = countedRow book ∷ zero in
       let kind = blockRow 3 book Test.Kind ∷ count in
@@ -73,14 +110,3 @@ module _ (book : List ℕ) (rest : List Row) (done : ℕ → Type 0) where
       (unless-row done 4 (λ p. p ≡ 0) zero (passes book Test.Count) Count _ refl refl
       (unless-row done 5 (λ p. p ≡ firstWrong book Test.Zero) rest (passes book Test.Zero) (Zero (firstWrong book Test.Zero)) (Done (signalsOf book)) refl refl
       (λ h. absurd (true≢false h))))))
-
-  pub sound-row : (n p : ℕ) → sound book ≡ true → FirstRow rest done n p → FirstRow (bookRows book rest) done n p
-  unfolding sound judged
-  sound-row n p e f =
-      let P : Answer → Type 0 = λ a. eqb (numberOf a) 0 ≡ true in
-      let h₁ = unless-passed P _ _ _ e false≢true in
-      let h₂ = unless-passed P _ _ _ (h₁ .1) false≢true in
-      let h₃ = unless-passed P _ _ _ (h₂ .1) false≢true in
-      let h₄ = unless-passed P _ _ _ (h₃ .1) false≢true in
-      let h₅ = unless-passed P _ _ _ (h₄ .1) false≢true in
-      inr (h₁ .0, inr (h₂ .0, inr (h₃ .0, inr (h₄ .0, inr (h₅ .0, f)))))

@@ -1,19 +1,15 @@
--- Programs that look right and are not: what each gives at a named input breaks a named promise.
--- Each promise is stated of an outcome, whoever made it; the contracts' outcomes keep all of them (`promised-2`, `promised-3`).
+-- Programs that look right and are not: no routine that keeps the named demand gives, of the named input, what each of them gives.
 -- Assumes nothing.
-use mathlib.Core.Path.{_≡_, refl, _∙_, sym, subst}
-use mathlib.Core.List.{List, []}
-use mathlib.Core.Logic.{_↔_}
-use Prim.Native.Nat.{ℕ, _+_, _*_, _-_, _^_, _≤_, _<_}
+use mathlib.Core.Path.{_≡_, refl, _∙_, sym, ap, subst}
+use mathlib.Core.List.{List, [], _∷_, _++_}
+use mathlib.Core.Logic.{inl, inr}
+use Prim.Native.Nat.{ℕ, _+_, _*_, _-_, _≤_, _<_}
 use native.Mathlib.Omega.{arith}
 use lib.Dec.{lit≤}
-use lib.ListN.{length, take, getD-replicate, length-replicate}
+use lib.ListN.{length, getD, drop, getD-replicate}
 use Rattle.laws.specs.DivisorLaws.{euclid}
 use Rattle.terms.specs.declared.Settings.{Settings}
 use Rattle.terms.specs.declared.Frame.{Frame}
-use Rattle.terms.specs.declared.Answer.{Answer}
-use Rattle.terms.specs.declared.Answer.the-variants.{Done}
-use Rattle.terms.specs.Answers.{numberOf, placeOf}
 use Rattle.terms.specs.Ranges.{Between, FrameInRange}
 use Rattle.terms.specs.RepetitionLaws.{repetition-most}
 use Rattle.age.specs.Age.{Age, firstStart, spanOf}
@@ -22,161 +18,184 @@ use Rattle.age.specs.AgeTests.{age-test}
 use Rattle.cycles.specs.Frames.{Names}
 use Rattle.filling.specs.Sums.{sum, same}
 use Rattle.planner.specs.Lists.{count, signalAt}
-use Rattle.planner.specs.Planned.{Planned}
-use Rattle.book.specs.declared.Reading.{Reading}
-use Rattle.book.specs.Words.{AllBelow}
-use Rattle.book.specs.Blocks.{AreWords, roomAfter}
-use Rattle.book.specs.Outcomes.{ReadOutcome, WriteOutcome}
-use Rattle.promises.specs.Tables.{Table, slotsUsed}
-use Rattle.promises.specs.Shows.{frameOf, ageOf, cellOf, Sends, Shows}
-use Rattle.promises.specs.Inputs.{settings, case1, twice, blank, invented, lentRoom, case1-book}
-use Rattle.promises.proofs.Named.{case1-table, settings-words, case1-words, case1-written}
-use Rattle.promises.proofs.Demand2.{accepted-shows, GivenBack, same-values}
-use Rattle.promises.proofs.Demand3.{Ready, Sound, refused-exactly, accepted-sound, fewest}
+use Rattle.book.specs.Words.{wordAt}
+use Rattle.book.specs.Blocks.{bookWord, bookOf}
+use Rattle.book.specs.Reading.{signalsOf, settingsIn, listIn}
+use Rattle.promises.specs.Calls.{Request, PlanRoom, Return, Routine}
+use Rattle.promises.specs.Rows.{Row, FirstRow, roomRow, bookRows, writingRows}
+use Rattle.promises.specs.Shows.{frameOf, ageOf, cellOf, Sends, overWords, fromBook}
+use Rattle.promises.specs.Demand1.{Demand1Reading, Demand1Writing}
+use Rattle.promises.specs.Demand2.{Demand2Planning, Demand2Books}
+use Rattle.promises.specs.Tables.{slotsUsed}
+use Rattle.promises.specs.Demand3.{AcceptedPlan, Demand3}
+use Rattle.promises.specs.Inputs.{settings, asked, fresh, half, case1, twice, single, pair, blank, sixty-four, often, invented, spread, colliding, case1-book, pair-book, exchanged}
+use Rattle.promises.proofs.Bytes.{word-in-front}
+use Rattle.promises.proofs.Named.{half-gets, slot1, case1-table, case1-ready, case1-holds, pair-holds}
+use Rattle.promises.proofs.RowLaws.{past, sound-rows}
 
--- ---- the promises, of an answer and of what was lent at exit
+-- the words of results that are known
+abbrev wordsOf : List ℕ → ℕ → ℕ
+wordsOf results p = getD results p 0
 
--- demand 2 of a plan
-abbrev pub Promise2 : Settings → (list cells results : List ℕ) → Answer → (cells′ results′ : List ℕ) → Type 0
-Promise2 s list cells results a cells′ results′ = numberOf a ≡ 0 → Shows s list cells results cells′ results′
+module _ (Gives : Routine Request PlanRoom) where
+  -- ---- what breaks demand 2
 
--- demand 3, "refused exactly when no collision-free table under the rule exists"
-abbrev pub RefusedExactly : Settings → List ℕ → Answer → Type 0
-RefusedExactly s list a = (numberOf a ≡ 0 → ⊥) ↔ ((R slot base : ℕ → ℕ) → Table s list R slot base → ⊥)
+  module _ (keeps : Demand2Planning Gives) (l : PlanRoom) (y : Return PlanRoom) (z : y .number ≡ 0) where
+    -- where a signal is shown, the table has its number in some cell: the first of its frame
+    shown-somewhere : (x : Request) → Gives x l y → (i : ℕ) → Between 1 (count (x .list)) i
+        → (k c : ℕ) × Between 1 (x .settings .slots) k × (c < 64) × (cellOf (y .lent .cells) k c ≡ i)
+    shown-somewhere x g i b =
+        let f = frameOf (overWords .word (y .lent)) i in
+        let h = keeps .ages x l y g z i b .frame in
+        let c : f .base < 64 = omega (arith, h .base, repetition-most (f .repetition) (h .repetition)) in
+        let sends : Sends f (f .slot) (f .base) = (refl, record { repetition = h .repetition; base = h .base; again = (0, omega arith) }) in
+        (f .slot, f .base, h .slot, c, keeps .table x l y g z .shown (f .slot) (f .base) i (h .slot) c b .1 sends)
 
--- demand 3, "uses the fewest slots of any"
-abbrev pub Fewest : Settings → List ℕ → Answer → Type 0
-Fewest s list a =
-    numberOf a ≡ 0 → (R slot base : ℕ → ℕ) → Table s list R slot base → placeOf a ≤ slotsUsed (s .slots) (count list) slot
+    -- one plan for all: case 1 and the empty list cannot have the same table
+    pub one-plan-for-all : Gives (asked case1) l y → Gives (asked []) l y → ⊥
+    one-plan-for-all g h =
+        let at = shown-somewhere (asked case1) g 1 (lit≤ tt, lit≤ tt) in
+        let clear = keeps .table (asked []) l y h z .empty (at .0) (at .1) (at .2) (at .3) .1 (λ i b. absurd (omega (arith, b .0, b .1))) in
+        omega (arith, at .4, clear)
 
-pub promised-2 : (s : Settings) (list cells results : List ℕ) (a : Answer) (cells′ results′ : List ℕ) → Planned s list cells results a cells′ results′
-    → Promise2 s list cells results a cells′ results′
-promised-2 = accepted-shows
+    -- writes nothing: case 1 in a table lent blank
+    pub writes-nothing : Gives (asked case1) l y → y .lent .cells ≡ blank → ⊥
+    writes-nothing g e =
+        let at = shown-somewhere (asked case1) g 1 (lit≤ tt, lit≤ tt) in
+        let zero : cellOf blank (at .0) (at .1) ≡ 0 = getD-replicate 5952 (64 * (at .0 - 1) + at .1) 0 0 (omega (arith, at .2, at .3)) in
+        omega (arith, at .4, ap (λ (cells : List ℕ). cellOf cells (at .0) (at .1)) e, zero)
 
-module _ (s : Settings) (list cells results : List ℕ) (h : Ready s list cells results) where
-  -- demand 3, "an accepted plan is one", and the number given is that of the slots with a nonzero cell
-  abbrev pub Promise3 : Answer → (cells′ results′ : List ℕ) → Type 0
-  Promise3 a cells′ results′ = numberOf a ≡ 0 → Sound s list cells results h a cells′ results′
+    -- invents ages: one that is not the definition's, of any signal
+    pub invents-ages : (x : Request) → Gives x l y → (i age : ℕ) → Between 1 (count (x .list)) i
+        → Age (x .settings) (signalAt (x .list) i) (frameOf (overWords .word (y .lent)) i) age
+        → ageOf (overWords .word (y .lent)) i ≡ age
+    invents-ages x g i age b true-age =
+        let s = x .settings in
+        let t = signalAt (x .list) i in
+        let f = frameOf (overWords .word (y .lent)) i in
+        age-unique (firstStart s f) (spanOf s f) (s .packing) (s .slot) (t .offset) (t .period) (ageOf (overWords .word (y .lent)) i) age
+        (keeps .ages x l y g z i b .is-age) true-age
 
-  pub promised-3 : (a : Answer) (cells′ results′ : List ℕ) → Planned s list cells results a cells′ results′
-      → RefusedExactly s list a × Promise3 a cells′ results′ × Fewest s list a
-  promised-3 a cells′ results′ p = (
-    refused-exactly s list cells results h a cells′ results′ p,
-    accepted-sound s list cells results h a cells′ results′ p,
-    fewest s list cells results h a cells′ results′ p,
-  )
+  -- ---- what breaks demand 3
 
--- ---- a planner that refuses all lists: at case 1 it breaks demand 3, for there is a table
+  module _ (keeps : Demand3 overWords Gives) (l : PlanRoom) (y : Return PlanRoom) where
+    -- refuses all lists: case 1 has a table
+    pub refuses-all : 5952 ≤ length (l .cells) → 4 ≤ length (l .results) → Gives (asked case1) l y → (y .number ≡ 0 → ⊥) → ⊥
+    refuses-all cells results g n =
+        keeps .refused-exactly (asked case1) l y g (case1-ready l cells results) .0 n (λ i. slot1) case1-table
 
-pub refuses-all : (a : Answer) → (numberOf a ≡ 0 → ⊥) → RefusedExactly settings case1 a → ⊥
-refuses-all a refuses promise = promise .0 refuses (λ i. 1) (λ i. 1) (λ i. 0) case1-table
+    module _ (z : y .number ≡ 0) where
+      -- what an accepted plan is, of results that are known
+      accepted : (list results : List ℕ) → Gives (asked list) l y → y .lent .results ≡ results
+          → AcceptedPlan settings list (y .place) (frameOf (wordsOf results)) (ageOf (wordsOf results))
+      accepted list results g e =
+          subst (λ (r : List ℕ). AcceptedPlan settings list (y .place) (frameOf (wordsOf r)) (ageOf (wordsOf r))) e
+          (keeps .accepted (asked list) l y g z)
 
--- ---- a shown frame has a cell
+      -- invents the slots used: at case 1 it gives all that there are, where one would do
+      pub invents-slots : Gives (asked case1) l y → y .place ≡ 93 → ⊥
+      unfolding sum same
+      invents-slots g e =
+          let fewer : y .place ≤ 1 = keeps .accepted (asked case1) l y g z .fewest (λ i. slot1) case1-table in omega (arith, e)
 
--- the first cell of a frame in range
-first-cell : (s : Settings) (f : Frame) → FrameInRange s f → (f .base < 64) × Sends f (f .slot) (f .base)
-first-cell s f h = (
-  omega (arith, h .base, repetition-most (f .repetition) (h .repetition)),
-  (refl, record { repetition = h .repetition; base = h .base; again = (0, omega arith) }),
-)
+      -- .. or beside any true results another number than theirs
+      pub invents-any-slots : (x : Request) (w : Return PlanRoom) → Gives x l y → Gives x l w → w .number ≡ 0
+          → w .lent .results ≡ y .lent .results → w .place ≡ y .place
+      invents-any-slots x w g h n e =
+          sym (keeps .accepted x l w h n .used)
+          ∙ ap (λ (r : List ℕ). slotsUsed (x .settings .slots) (count (x .list)) (frameOf (wordsOf r))) e
+          ∙ keeps .accepted x l y g z .used
 
--- where signal i is shown, the table has its number in some cell
-shown-somewhere : (s : Settings) (list cells results cells′ results′ : List ℕ) → Shows s list cells results cells′ results′ → (i : ℕ) → Between 1 (count list) i
-    → (k c : ℕ) × Between 1 (s .slots) k × (c < 64) × (cellOf cells′ k c ≡ i)
-shown-somewhere s list cells results cells′ results′ p i b =
-    let f = frameOf results′ i in
-    let h = p .frames i b in
-    let first = first-cell s f h in
-    (f .slot, f .base, h .slot, first .0, p .shown (f .slot) (f .base) i (h .slot) (first .0) b .1 (first .1))
+      -- places the first signal truly and invents the others: the two frames collide
+      pub invents-others : Gives (asked twice) l y → y .lent .results ≡ invented → ⊥
+      invents-others g e =
+          let t = accepted twice invented g e .table in
+          let every : Names 1 0 0 = record { repetition = (0, lit≤ tt, refl); base = lit≤ tt; again = (0, refl) } in
+          omega (arith, t .apart 1 2 1 0 (lit≤ tt, lit≤ tt) (lit≤ tt, lit≤ tt) (lit≤ tt) (refl, every) (refl, every))
 
--- ---- a planner that gives one plan to all: case 1 and the empty list cannot have the same table
+      -- shows repetition 64 with its true age: over the bound
+      pub over-the-bound : Gives (asked case1) l y → y .lent .results ≡ sixty-four → ⊥
+      over-the-bound g e = omega (arith, accepted case1 sixty-four g e .bounds 1 (lit≤ tt, lit≤ tt))
 
-pub one-plan-for-all : (cells results : List ℕ) (a : Answer) (cells′ results′ : List ℕ) → numberOf a ≡ 0
-    → Promise2 settings case1 cells results a cells′ results′ → Promise2 settings [] cells results a cells′ results′ → ⊥
-one-plan-for-all cells results a cells′ results′ z p q =
-    let at = shown-somewhere settings case1 cells results cells′ results′ (p z) 1 (lit≤ tt, lit≤ tt) in
-    let clear = q z .empty (at .0) (at .1) (at .2) (at .3) .1 (λ i b. absurd (omega (arith, b .0, b .1))) in
-    omega (arith, at .4, clear)
+      -- shows repetition 1 where the rule gives 2
+      pub too-often : Gives (asked single) l y → y .lent .results ≡ often → ⊥
+      too-often g e =
+          let two = half-gets .has (λ e. omega (arith, e)) in
+          omega (arith, accepted single often g e .rule 1 (lit≤ tt, lit≤ tt) .largest 2 (two .0) (two .1))
 
--- ---- a planner that writes nothing: case 1 in a table lent blank
-
-pub writes-nothing : (results : List ℕ) (a : Answer) → numberOf a ≡ 0 → Promise2 settings case1 blank results a blank results → ⊥
-writes-nothing results a z p =
-    let at = shown-somewhere settings case1 blank results blank results (p z) 1 (lit≤ tt, lit≤ tt) in
-    let zero : cellOf blank (at .0) (at .1) ≡ 0 = getD-replicate 5952 (64 * (at .0 - 1) + at .1) 0 0 (omega (arith, at .2, at .3)) in
-    omega (arith, at .4, zero)
-
--- ---- a planner that places the first signal truly and invents the others
-
--- the first one's place and age are true
-pub first-true : Age settings (signalAt twice 1) (frameOf invented 1) (ageOf invented 1)
+-- what they show is true as far as it goes: the ages are the definition's
+pub sixty-four-true : Age settings fresh (frameOf (wordsOf sixty-four) 1) (ageOf (wordsOf sixty-four) 1)
 unfolding euclid
-first-true = age-test settings (signalAt twice 1) (frameOf invented 1) 16 .1 tt .1
+sixty-four-true = age-test settings fresh (frameOf (wordsOf sixty-four) 1) 157516 .1 tt .1
 
-every-cycle : Names 1 0 0
-every-cycle = record { repetition = (0, lit≤ tt, refl); base = lit≤ tt; again = (0, refl) }
+pub often-true : Age settings half (frameOf (wordsOf often) 1) (ageOf (wordsOf often) 1)
+unfolding euclid
+often-true = age-test settings half (frameOf (wordsOf often) 1) 16 .1 tt .1
 
--- the second is shown at the place of the first: no cell can hold both numbers, and the two frames collide
-pub invents-others-2 : (cells results cells′ : List ℕ) (a : Answer) → numberOf a ≡ 0 → Promise2 settings twice cells results a cells′ invented → ⊥
-invents-others-2 cells results cells′ a z p =
-    let first = p z .shown 1 0 1 (lit≤ tt, lit≤ tt) (lit≤ tt) (lit≤ tt, lit≤ tt) .1 (refl, every-cycle) in
-    let second = p z .shown 1 0 2 (lit≤ tt, lit≤ tt) (lit≤ tt) (lit≤ tt, lit≤ tt) .1 (refl, every-cycle) in
-    omega (arith, first, second)
+-- ---- from the editor: of the book of `pair`
 
-pub invents-others-3 : (cells results : List ℕ) (h : Ready settings twice cells results) (cells′ : List ℕ) (a : Answer) → numberOf a ≡ 0
-    → Promise3 settings twice cells results h a cells′ invented → ⊥
-invents-others-3 cells results h cells′ a z p =
-    let t = p z .table in
-    let one : Between 1 2 1 = (lit≤ tt, lit≤ tt) in
-    let two : Between 1 2 2 = (lit≤ tt, lit≤ tt) in
-    let first : Names (p z .R 1) 0 0 = record { repetition = t .repetition 1 one; base = t .base-below 1 one; again = (0, omega arith) } in
-    let second : Names (p z .R 2) 0 0 = record { repetition = t .repetition 2 two; base = t .base-below 2 two; again = (0, omega arith) } in
-    omega (arith, t .apart 1 2 0 one two (lit≤ tt) refl first second)
+module _ (Gives : Routine (List ℕ) (List ℕ)) (keeps : Demand3 fromBook Gives) (l : List ℕ) (y : Return (List ℕ)) (z : y .number ≡ 0)
+    (g : Gives pair-book l y) where
+  shown-plan : (bytes : List ℕ) → y .lent ≡ bytes → AcceptedPlan settings pair (y .place) (frameOf (wordAt bytes)) (ageOf (wordAt bytes))
+  shown-plan bytes e =
+      subst (λ (b : List ℕ). AcceptedPlan settings pair (y .place) (frameOf (wordAt b)) (ageOf (wordAt b))) e
+      (subst (λ (list : List ℕ). AcceptedPlan settings list (y .place) (frameOf (wordAt (y .lent))) (ageOf (wordAt (y .lent)))) (pair-holds .list-in)
+      (subst (λ (s : Settings). AcceptedPlan s (listIn pair-book) (y .place) (frameOf (wordAt (y .lent))) (ageOf (wordAt (y .lent)))) (pair-holds .settings-in)
+      (keeps .accepted pair-book l y g z)))
 
--- an age that is not the definition's, of any signal
-pub invents-ages : (s : Settings) (list cells results : List ℕ) (a : Answer) (cells′ results′ : List ℕ) (i age : ℕ) → numberOf a ≡ 0 → Between 1 (count list) i
-    → Age s (signalAt list i) (frameOf results′ i) age → (ageOf results′ i ≡ age → ⊥) → Promise2 s list cells results a cells′ results′ → ⊥
-invents-ages s list cells results a cells′ results′ i age z b true-age other p =
-    let x = signalAt list i in
-    let f = frameOf results′ i in
-    other (age-unique (firstStart s f) (spanOf s f) (s .packing) (s .slot) (x .offset) (x .period) (ageOf results′ i) age (p z .ages i b) true-age)
+  -- shows two slots and claims one
+  pub claims-one-slot : y .lent ≡ spread → y .place ≡ 1 → ⊥
+  unfolding sum same wordAt
+  claims-one-slot e p = let two : 2 ≡ y .place = shown-plan spread e .used in omega (arith, p)
 
--- ---- a planner that invents the slots used
+  -- shows two frames in slot 1 of cycle 1
+  pub shows-collision : y .lent ≡ colliding → ⊥
+  unfolding wordAt
+  shows-collision e =
+      let first : Names 1 0 1 = record { repetition = (0, lit≤ tt, refl); base = lit≤ tt; again = (1, refl) } in
+      let second : Names 2 1 1 = record { repetition = (1, lit≤ tt, refl); base = lit≤ tt; again = (0, refl) } in
+      omega (arith, shown-plan colliding e .table .apart 1 2 1 1 (lit≤ tt, lit≤ tt) (lit≤ tt, lit≤ tt) (lit≤ tt) (refl, first) (refl, second))
 
--- at case 1 it gives all that there are: one would do
-pub invents-slots : Fewest settings case1 (Done 93) → ⊥
-unfolding sum same
-invents-slots promise = let fewer : 93 ≤ 1 = promise refl (λ i. 1) (λ i. 1) (λ i. 0) case1-table in omega arith
+-- ---- books
 
--- any number beside a true table: that of its slots with a nonzero cell is another
-pub invents-any-slots : (s : Settings) (list cells results : List ℕ) (h : Ready s list cells results) (a a′ : Answer) (cells′ results′ : List ℕ)
-    → Planned s list cells results a cells′ results′ → numberOf a ≡ 0 → numberOf a′ ≡ 0 → (placeOf a′ ≡ placeOf a → ⊥)
-    → Promise3 s list cells results h a′ cells′ results′ → ⊥
-invents-any-slots s list cells results h a a′ cells′ results′ planned z z′ other p =
-    other (sym (p z′ .shown) ∙ accepted-sound s list cells results h a cells′ results′ planned z .shown)
+-- a reader that refuses all books, as with 1: every row of the book of case 1 holds
+pub refuses-all-books : (Gives : Settings → Routine (List ℕ) (List ℕ)) → Demand1Reading Gives → (s : Settings) (l : List ℕ) (y : Return (List ℕ))
+    → 5 ≤ length l → Gives s case1-book l y → y .number ≡ 0
+refuses-all-books Gives keeps s l y enough g = done (past last so (y .number) (y .place) (bookRows case1-book) (sound-rows case1-book (case1-holds .whole)) row)
+  where
+    last : List Row
+    last = roomRow (5 * signalsOf case1-book) (length l) ∷ []
 
--- ---- a reader that refuses all books
+    so : ℕ → Type 0
+    so p = p ≡ signalsOf case1-book
 
--- demand 2 of reading: of a book that some writing wrote, the values are given back
-abbrev pub ReadsBack : (book lent : List ℕ) → Reading → (back : List ℕ) → Type 0
-ReadsBack book lent r back =
-    (s : Settings) (list room : List ℕ) (a : Answer) (exit : List ℕ) →
-    AreWords s →
-    AllBelow (2 ^ 32) list →
-    WriteOutcome s list room a exit →
-    numberOf a ≡ 0 →
-    length list ≤ length lent →
-    take (512 * placeOf a) exit ≡ book →
-    GivenBack s list lent r back
+    row : FirstRow (bookRows case1-book ++ last) so (y .number) (y .place)
+    row = keeps .numbered case1-book l y (s, g)
 
-pub promised-reading : (book lent : List ℕ) (r : Reading) (back : List ℕ) → ReadOutcome book lent r back → ReadsBack book lent r back
-promised-reading book lent r back read s list room a exit settings words written z enough same =
-    same-values s list room a exit lent r back settings words written z enough
-    (subst (λ (b : List ℕ). ReadOutcome b lent r back) (sym same) read)
+    done : FirstRow last so (y .number) (y .place) → y .number ≡ 0
+    done (inl (f, e, p)) = absurd (f (omega (arith, case1-holds .signals)))
+    done (inr (r, (e, p))) = e
 
--- at the book of case 1
-pub refuses-all-books : (lent : List ℕ) → 5 ≤ length lent → (r : Reading) (back : List ℕ) → (numberOf (r .answer) ≡ 0 → ⊥)
-    → ReadsBack case1-book lent r back → ⊥
-refuses-all-books lent enough r back refuses promise =
-    let w = case1-written lentRoom (omega (arith, length-replicate {A = ℕ} 1024 0)) in
-    refuses (promise settings case1 lentRoom (Done 2) (roomAfter settings case1 lentRoom) settings-words case1-words (w .0) refl enough (w .1) .accepted)
+-- a writer that refuses all lists, as with 4: every row of case 1 holds
+pub refuses-all-values : (Gives : Routine Request (List ℕ)) → Demand1Writing Gives → (l : List ℕ) (y : Return (List ℕ))
+    → 1024 ≤ length l → Gives (asked case1) l y → y .number ≡ 0
+refuses-all-values Gives keeps l y enough g = done (keeps .numbered (asked case1) l y g)
+  where
+    done : FirstRow (writingRows (asked case1) l) (λ p. p ≡ 2) (y .number) (y .place) → y .number ≡ 0
+    done (inl (f, e, p)) = absurd (f (record { whole = refl; few = lit≤ tt }))
+    done (inr (k, inl (f, e, p))) = absurd (f enough)
+    done (inr (k, inr (r, (e, p)))) = e
+
+-- a reader and a writer that both take word 2 for the slot length and word 3 for the cycle length
+module _ (Reads : Settings → Routine (List ℕ) (List ℕ)) (Writes : Routine Request (List ℕ)) (keeps : Demand2Books Reads Writes) (l : List ℕ) (y : Return (List ℕ))
+    (z : y .number ≡ 0) where
+  pub reads-exchanged : Reads (exchanged settings) case1-book l y → ⊥
+  reads-exchanged r =
+      omega (arith, ap (λ (s : Settings). s .cycle) (keeps .settings-read (exchanged settings) case1-book l y r z ∙ case1-holds .settings-in))
+
+  pub writes-exchanged : Writes (asked case1) l y → wordAt (y .lent) 2 ≡ 16 → ⊥
+  unfolding bookOf settingsIn
+  writes-exchanged w e =
+      let front = word-in-front (bookWord settings case1) 256 (drop 1024 l) 2 (lit≤ tt) in
+      let cycle = ap (λ (s : Settings). s .cycle) (case1-holds .settings-in) in
+      omega (arith, sym e ∙ ap (λ (b : List ℕ). wordAt b 2) (keeps .written (asked case1) l y w z) ∙ front ∙ cycle)

@@ -1,7 +1,7 @@
--- The two changes of demand 3: bounds raised up to their periods, and signals struck.
+-- The change of demand 3: bounds raised up to their periods, and signals struck.
 use mathlib.Core.Path.{_≡_}
-use mathlib.Core.List.{List, [], _∷_}
-use Prim.Native.Nat.{ℕ, _≤_}
+use mathlib.Core.List.{List}
+use Prim.Native.Nat.{ℕ, _%_, _≤_, _<_}
 use lib.ListN.{length}
 use Rattle.terms.specs.declared.Signal.{Signal}
 use Rattle.terms.specs.Ranges.{Between}
@@ -16,13 +16,11 @@ pub record RaisedSignal (x y : Signal) : Type 0 where
   pub raised : x .bound ≤ y .bound
   pub most : y .bound ≤ y .period
 
--- a list of the same length, each signal as it was or with its bound raised
-pub record Raised (list list′ : List ℕ) : Type 0 where
-  pub same-length : length list′ ≡ length list
-  pub each : (i : ℕ) → Between 1 (count list) i → RaisedSignal (signalAt list i) (signalAt list′ i)
-
--- list′ is list with some signals struck
-pub data Struck : List ℕ → List ℕ → Type 0 where
-  end : Struck [] []
-  kept : {a b c d e : ℕ} {l l′ : List ℕ} → Struck l l′ → Struck (a ∷ b ∷ c ∷ d ∷ e ∷ l) (a ∷ b ∷ c ∷ d ∷ e ∷ l′)
-  struck : {a b c d e : ℕ} {l l′ : List ℕ} → Struck l l′ → Struck (a ∷ b ∷ c ∷ d ∷ e ∷ l) l′
+-- list′ is list with some signals struck and the bounds of the others as they were or raised: signal j of list′ was
+-- signal `was j` of list, and the order stays
+pub record Eased (list list′ : List ℕ) : Type 0 where
+  pub whole : length list′ % 5 ≡ 0
+  pub was : ℕ → ℕ
+  pub rising : (i j : ℕ) → 1 ≤ i → i < j → j ≤ count list′ → was i < was j
+  pub within : (j : ℕ) → Between 1 (count list′) j → Between 1 (count list) (was j)
+  pub raised : (j : ℕ) → Between 1 (count list′) j → RaisedSignal (signalAt list (was j)) (signalAt list′ j)

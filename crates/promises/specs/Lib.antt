@@ -1,5 +1,9 @@
+pub mod Calls
+pub mod Rows
+pub mod Demand1
+pub mod Shows
+pub mod Demand2
 pub mod Tables
 pub mod Changes
-pub mod Rows
-pub mod Shows
+pub mod Demand3
 pub mod Inputs

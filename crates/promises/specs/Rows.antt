@@ -1,9 +1,10 @@
 -- "Numbers the planner gives back", as a table of rows for each call, in the order in which it asks them.
 use mathlib.Core.Path.{_≡_}
 use mathlib.Core.Bool.{true}
-use mathlib.Core.List.{List, [], _∷_}
+use mathlib.Core.List.{List, [], _∷_, _++_}
 use mathlib.Core.Logic.{_⊎_}
 use Prim.Native.Nat.{ℕ, _*_, _≤_, _<_}
+use lib.ListN.{length}
 use Rattle.terms.specs.declared.Settings.{Settings}
 use Rattle.terms.specs.Ranges.{SettingsInRange, LowestOutOfRange, SignalInRange}
 use Rattle.planner.specs.Lists.{CountInRange, count, EachSignal, LowestWithout, Kept, Repetitions}
@@ -11,6 +12,7 @@ use Rattle.planner.specs.Filled.{needed}
 use Rattle.book.specs.declared.Test.{Test}
 use Rattle.book.specs.Blocks.{blocksFor}
 use Rattle.book.specs.Reading.{lengthRight, passes, firstWrong, signalsOf, settingsIn, listIn}
+use Rattle.promises.specs.Calls.{Request, PlanRoom}
 
 -- a row: its number, what must hold, and the place that is given where that does not hold
 pub record Row : Type 1 where
@@ -23,30 +25,22 @@ abbrev pub FirstRow : List Row → (done : ℕ → Type 0) → (n p : ℕ) → T
 FirstRow [] done n p = (n ≡ 0) × done p
 FirstRow (r ∷ rs) done n p = ((r .holds → ⊥) × (n ≡ r .number) × r .place p) ⊎ (r .holds × FirstRow rs done n p)
 
--- the numbers of the rows, and each with what must hold
-abbrev pub numbers : List Row → List ℕ
-numbers [] = []
-numbers (r ∷ rs) = r .number ∷ numbers rs
+-- all rows hold
+abbrev pub Hold : List Row → Type 0
+Hold [] = Unit {0}
+Hold (r ∷ rs) = r .holds × Hold rs
 
-abbrev pub asked : List Row → List (ℕ × Type 0)
-asked [] = []
-asked (r ∷ rs) = (r .number, r .holds) ∷ asked rs
+-- ---- planning: 6 and 4 of its settings and its list
 
--- "Planning: 6, 4, 10, 7, 8, 9, 11". 6 and 4 of its settings and its list
 abbrev pub settingRow : Settings → Row
 settingRow s = record { number = 6; holds = SettingsInRange s; place = LowestOutOfRange s }
 
 abbrev pub countRow : List ℕ → Row
 countRow list = record { number = 4; holds = CountInRange list; place = λ p. p ≡ 0 }
 
--- 10: "cells, words or bytes needed; the table before the results"
-abbrev pub roomRow : (tableNeeds table resultsNeed results : ℕ) → Row
-roomRow tableNeeds table resultsNeed results =
-    record {
-      number = 10;
-      holds = (tableNeeds ≤ table) × (resultsNeed ≤ results);
-      place = λ p. ((table < tableNeeds) × (p ≡ tableNeeds)) ⊎ ((tableNeeds ≤ table) × (p ≡ resultsNeed));
-    }
+-- 10: "cells, words or bytes needed"; of one lent list, and "the table before the results"
+abbrev pub roomRow : (needs lent : ℕ) → Row
+roomRow needs lent = record { number = 10; holds = needs ≤ lent; place = λ p. p ≡ needs }
 
 -- the slots needed, with the repetitions that the rule gives
 abbrev pub Needed : Settings → List ℕ → ℕ → Type 0
@@ -60,12 +54,17 @@ signalRows s list =
     ∷ record { number = 9; holds = (R : ℕ → ℕ) → Repetitions s list R → needed list R ≤ s .slots; place = Needed s list }
     ∷ []
 
--- 11 has no row: it is never given
-abbrev pub planningRows : Settings → List ℕ → (cells results : ℕ) → List Row
-planningRows s list cells results =
-    settingRow s ∷ countRow list ∷ roomRow (64 * s .slots) cells (4 * count list) results ∷ signalRows s list
+-- "Planning: 6, 4, 10, 7, 8, 9, 11." 11 has no row: it is never given
+abbrev pub planningRows : Request → PlanRoom → List Row
+planningRows x l =
+    settingRow (x .settings)
+    ∷ countRow (x .list)
+    ∷ roomRow (64 * x .settings .slots) (length (l .cells))
+    ∷ roomRow (4 * count (x .list)) (length (l .results))
+    ∷ signalRows (x .settings) (x .list)
 
--- a test of every block: "first such block"
+-- ---- reading: a test of every block, "first such block"
+
 abbrev pub blockRow : ℕ → List ℕ → Test → Row
 blockRow n book t = record { number = n; holds = passes book t ≡ true; place = λ p. p ≡ firstWrong book t }
 
@@ -74,34 +73,27 @@ abbrev pub countedRow : List ℕ → Row
 countedRow book = record { number = 4; holds = passes book Test.Count ≡ true; place = λ p. p ≡ 0 }
 
 -- "Order when reading: 1, 2, 3, 4, 5, 10, each over all blocks before the next."
-abbrev pub bookRows : List ℕ → (rest : List Row) → List Row
-bookRows book rest =
+abbrev pub bookRows : List ℕ → List Row
+bookRows book =
     record { number = 1; holds = lengthRight book ≡ true; place = λ p. p ≡ 0 }
     ∷ blockRow 2 book Test.Check
     ∷ blockRow 3 book Test.Kind
     ∷ countedRow book
     ∷ blockRow 5 book Test.Zero
-    ∷ rest
-
-abbrev pub lentRow : List ℕ → (room : ℕ) → Row
-lentRow book room = record { number = 10; holds = 5 * signalsOf book ≤ room; place = λ p. p ≡ 5 * signalsOf book }
-
-abbrev pub readingRows : List ℕ → (room : ℕ) → List Row
-readingRows book room = bookRows book (lentRow book room ∷ [])
-
--- "Writing: 4, 10."
-abbrev pub writingRows : List ℕ → (room : ℕ) → List Row
-writingRows list room =
-    countRow list
-    ∷ record { number = 10; holds = 512 * blocksFor (count list) ≤ room; place = λ p. p ≡ 512 * blocksFor (count list) }
     ∷ []
 
--- "From the editor: reading, then planning; its results are its only lent room, so only they can give 10."
-abbrev pub bytesRows : Settings → List ℕ → (bytes : ℕ) → List Row
-bytesRows s list bytes =
-    settingRow s
-    ∷ record { number = 10; holds = 16 * count list ≤ bytes; place = λ p. p ≡ 16 * count list }
-    ∷ signalRows s list
+abbrev pub readingRows : (book lent : List ℕ) → List Row
+readingRows book l = bookRows book ++ (roomRow (5 * signalsOf book) (length l) ∷ [])
 
-abbrev pub editorRows : List ℕ → (bytes : ℕ) → List Row
-editorRows book bytes = bookRows book (bytesRows (settingsIn book) (listIn book) bytes)
+-- ---- "Writing: 4, 10."
+
+abbrev pub writingRows : Request → (lent : List ℕ) → List Row
+writingRows x l = countRow (x .list) ∷ roomRow (512 * blocksFor (count (x .list))) (length l) ∷ []
+
+-- ---- "From the editor: reading, then planning; its results are its only lent room, so only they can give 10."
+
+abbrev pub bytesRows : Settings → List ℕ → (lent : List ℕ) → List Row
+bytesRows s list l = settingRow s ∷ roomRow (16 * count list) (length l) ∷ signalRows s list
+
+abbrev pub editorRows : (book lent : List ℕ) → List Row
+editorRows book l = bookRows book ++ bytesRows (settingsIn book) (listIn book) l

@@ -1,28 +1,25 @@
--- Demand 2 of a plan: what its results and its table show, for each signal, cell and word.
+-- What a plan shows: frames and ages in the words of its results, and frames in the cells of its table; the same for planning over
+-- words and for planning a book, whose results are bytes.
 use mathlib.Core.Path.{_≡_}
 use mathlib.Core.List.{List}
-use mathlib.Core.Logic.{_↔_}
-use Prim.Native.Nat.{ℕ, _+_, _*_, _-_, _≤_, _<_}
+use Prim.Native.Nat.{ℕ, _+_, _*_, _-_, _≤_}
 use lib.ListN.{length, getD}
 use Rattle.terms.specs.declared.Settings.{Settings}
 use Rattle.terms.specs.declared.Frame.{Frame}
-use Rattle.terms.specs.Ranges.{Between, FrameInRange}
-use Rattle.age.specs.Age.{Age}
 use Rattle.cycles.specs.Frames.{Names}
-use Rattle.planner.specs.Lists.{count, signalAt}
+use Rattle.planner.specs.Lists.{count}
 use Rattle.book.specs.Words.{wordAt}
+use Rattle.book.specs.Reading.{settingsIn, listIn}
+use Rattle.promises.specs.Calls.{Request, PlanRoom}
+use Rattle.promises.specs.Rows.{Hold, bookRows}
 
--- the four words of signal i's result: "slot, base, repetition, age"
-abbrev pub frameOf : List ℕ → ℕ → Frame
-frameOf results i =
-    record {
-      slot = getD results (4 * (i - 1)) 0;
-      base = getD results (4 * (i - 1) + 1) 0;
-      repetition = getD results (4 * (i - 1) + 2) 0;
-    }
+-- the four words of signal i's result, in a row of words: "slot, base, repetition, age"
+abbrev pub frameOf : (word : ℕ → ℕ) → ℕ → Frame
+frameOf word i =
+    record { slot = word (4 * (i - 1)); base = word (4 * (i - 1) + 1); repetition = word (4 * (i - 1) + 2) }
 
-abbrev pub ageOf : List ℕ → ℕ → ℕ
-ageOf results i = getD results (4 * (i - 1) + 3) 0
+abbrev pub ageOf : (word : ℕ → ℕ) → ℕ → ℕ
+ageOf word i = word (4 * (i - 1) + 3)
 
 -- the cell of slot k and cycle c
 abbrev pub cellOf : List ℕ → (k c : ℕ) → ℕ
@@ -32,35 +29,29 @@ cellOf cells k c = getD cells (64 * (k - 1) + c) 0
 abbrev pub Sends : Frame → (k c : ℕ) → Type 0
 Sends f k c = (f .slot ≡ k) × Names (f .repetition) (f .base) c
 
-pub record Shows (s : Settings) (list cells results cells′ results′ : List ℕ) : Type 0 where
-  -- each result is a frame of the segment
-  pub frames : (i : ℕ) → Between 1 (count list) i → FrameInRange s (frameOf results′ i)
-  -- "The age shown is the largest, over all [releases], from release to the end of the first frame that starts at least
-  -- the packing time later."
-  pub ages : (i : ℕ) → Between 1 (count list) i → Age s (signalAt list i) (frameOf results′ i) (ageOf results′ i)
-  -- "The table shows each frame in the cycles that its base and repetition name, and nowhere else."
-  pub shown :
-      (k c i : ℕ) → Between 1 (s .slots) k → c < 64 → Between 1 (count list) i → (cellOf cells′ k c ≡ i) ↔ Sends (frameOf results′ i) k c
-  pub empty :
-      (k c : ℕ) → Between 1 (s .slots) k → c < 64 → (cellOf cells′ k c ≡ 0) ↔ ((i : ℕ) → Between 1 (count list) i → Sends (frameOf results′ i) k c → ⊥)
-  -- what lies behind the table and the results stays
-  pub cells-kept : (length cells′ ≡ length cells) × ((j : ℕ) → 64 * s .slots ≤ j → getD cells′ j 0 ≡ getD cells j 0)
-  pub results-kept : (length results′ ≡ length results) × ((j : ℕ) → 4 * count list ≤ j → getD results′ j 0 ≡ getD results j 0)
+-- a way to plan: the settings and the list that are planned, whether enough is lent, and word p of the results
+pub record Planning (Asked Room : Type 0) : Type 1 where
+  pub settings : Asked → Settings
+  pub list : Asked → List ℕ
+  pub enough : Asked → Room → Type 0
+  pub word : Room → ℕ → ℕ
 
--- ---- from the editor, where "each result then comes as four little-endian words, 16 bytes a signal"
-
-abbrev pub frameIn : List ℕ → ℕ → Frame
-frameIn bytes i =
+-- over lent words
+abbrev pub overWords : Planning Request PlanRoom
+overWords =
     record {
-      slot = wordAt bytes (4 * (i - 1));
-      base = wordAt bytes (4 * (i - 1) + 1);
-      repetition = wordAt bytes (4 * (i - 1) + 2);
+      settings = λ x. x .settings;
+      list = λ x. x .list;
+      enough = λ x l. (64 * x .settings .slots ≤ length (l .cells)) × (4 * count (x .list) ≤ length (l .results));
+      word = λ l p. getD (l .results) p 0;
     }
 
-abbrev pub ageIn : List ℕ → ℕ → ℕ
-ageIn bytes i = wordAt bytes (4 * (i - 1) + 3)
-
-pub record BytesShow (s : Settings) (list bytes bytes′ : List ℕ) : Type 0 where
-  pub frames : (i : ℕ) → Between 1 (count list) i → FrameInRange s (frameIn bytes′ i)
-  pub ages : (i : ℕ) → Between 1 (count list) i → Age s (signalAt list i) (frameIn bytes′ i) (ageIn bytes′ i)
-  pub bytes-kept : (length bytes′ ≡ length bytes) × ((j : ℕ) → 16 * count list ≤ j → getD bytes′ j 0 ≡ getD bytes j 0)
+-- of a book that 1 to 5 do not refuse, its results "as four little-endian words, 16 bytes a signal"
+abbrev pub fromBook : Planning (List ℕ) (List ℕ)
+fromBook =
+    record {
+      settings = settingsIn;
+      list = listIn;
+      enough = λ book l. Hold (bookRows book) × (16 * count (listIn book) ≤ length l);
+      word = wordAt;
+    }

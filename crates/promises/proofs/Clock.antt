@@ -1,0 +1,60 @@
+-- Table and clock are one: the starts of a frame are the cycles that its base and repetition name, the 64 cycles of a table
+-- coming again for ever.
+-- Assumes nothing.
+use mathlib.Core.Path.{_≡_, refl, _∙_, sym, ap}
+use mathlib.Core.List.{List}
+use mathlib.Core.Logic.{_↔_}
+use Prim.Native.Nat.{ℕ, _+_, _*_, _-_, _/_, _%_, _<_}
+use native.Mathlib.Nat.{mod-add-div', mod-lt}
+use native.Mathlib.Omega.{arith}
+use lib.Dec.{lit≤}
+use Rattle.laws.specs.RemainderLaws.{same-remainder, splits-remainder}
+use Rattle.terms.specs.declared.Settings.{Settings}
+use Rattle.terms.specs.declared.Frame.{Frame}
+use Rattle.terms.specs.Ranges.{Between, Repetition, FrameInRange}
+use Rattle.terms.specs.RepetitionLaws.{repetition-most, repetition-multiple}
+use Rattle.age.specs.Age.{Start, firstStart, spanOf}
+use Rattle.cycles.specs.Frames.{Names}
+use Rattle.cycles.specs.FrameLaws.{remainder-named}
+use Rattle.promises.specs.Shows.{cellOf, Sends}
+use Rattle.promises.specs.Demand2.{StartsAt}
+
+-- a repetition divides 64, so a cycle and its remainder by 64 leave the same by it
+same-cycle : (R n : ℕ) → Repetition R → n % 64 % R ≡ n % R
+same-cycle R n r =
+    let q = repetition-multiple R 64 r (6, lit≤ tt, refl) (repetition-most R r) in
+    same-remainder R (n % 64) n (n / 64 * q .0, 0, omega (arith, mod-add-div' n 64, ap (λ (z : ℕ). n / 64 * z) (q .1)))
+
+module _ (s : Settings) (f : Frame) (h : FrameInRange s f) where
+  pub starts-named : (t : ℕ) → Start (firstStart s f) (spanOf s f) t ↔ StartsAt s (Sends f) t
+  starts-named t = (
+    (λ start.
+        let n = f .base + start .0 * f .repetition in
+        let left = same-cycle (f .repetition) n (h .repetition) ∙ splits-remainder (f .repetition) (f .base) (start .0) (h .base) in
+        (n, f .slot, (refl, remainder-named (h .repetition) (h .base) left), omega (arith, start .1))),
+    named,
+  )
+    where
+      named : StartsAt s (Sends f) t → Start (firstStart s f) (spanOf s f) t
+      named (n, k, (slot, names), e) =
+          let R = f .repetition in
+          let q = repetition-multiple R 64 (h .repetition) (6, lit≤ tt, refl) (repetition-most R (h .repetition)) in
+          let whole : n ≡ f .base + (names .again .0 + n / 64 * q .0) * R =
+          omega (arith, names .again .1, mod-add-div' n 64, ap (λ (z : ℕ). n / 64 * z) (q .1)) in (
+            names .again .0 + n / 64 * q .0,
+            omega (arith, e, ap (λ (z : ℕ). z * s .cycle) whole, ap (λ (z : ℕ). (z - 1) * s .slot) slot),
+          )
+
+-- so where cells show the frames of m signals, their starts are the cells that show them
+module _ (s : Settings) (m : ℕ) (frame : ℕ → Frame) (cells : List ℕ) (frames : (i : ℕ) → Between 1 m i → FrameInRange s (frame i))
+    (shown : (k c i : ℕ) → Between 1 (s .slots) k → c < 64 → Between 1 m i → (cellOf cells k c ≡ i) ↔ Sends (frame i) k c) where
+  pub starts-shown : (i t : ℕ) → Between 1 m i
+      → Start (firstStart s (frame i)) (spanOf s (frame i)) t ↔ StartsAt s (λ k c. Between 1 (s .slots) k × (cellOf cells k c ≡ i)) t
+  starts-shown i t b =
+      let named = starts-named s (frame i) (frames i b) t in (
+        (λ start.
+            let at = named .0 start in
+            let k : Between 1 (s .slots) (at .1) = omega (arith, frames i b .slot, at .2 .0) in
+            (at .0, at .1, (k, shown (at .1) (at .0 % 64) i k (mod-lt (at .0) (lit≤ tt)) b .1 (at .2)), at .3)),
+        λ at. named .1 (at .0, at .1, shown (at .1) (at .0 % 64) i (at .2 .0) (mod-lt (at .0) (lit≤ tt)) b .0 (at .2 .1), at .3),
+      )

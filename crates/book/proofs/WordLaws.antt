@@ -85,7 +85,7 @@ word-of-bytes f n p h fits =
     ∙ four-bytes (f p) fits
 
 -- a byte of a word that was read is the byte that stood there
-byte-of-word : (b : List ℕ) → AllBelow 256 b → (p i : ℕ) → i < 4 → byteOf (wordAt b p) i ≡ getD b (4 * p + i) 0
+pub byte-of-word : (b : List ℕ) → AllBelow 256 b → (p i : ℕ) → i < 4 → byteOf (wordAt b p) i ≡ getD b (4 * p + i) 0
 unfolding byteOf wordAt
 byte-of-word b h p zero l = omega (arith, h (4 * p), h (4 * p + 1), h (4 * p + 2), h (4 * p + 3), ap (λ (n : ℕ). getD b n 0) (add-zero (4 * p)))
 byte-of-word b h p (suc zero) l = omega (arith, h (4 * p), h (4 * p + 1), h (4 * p + 2), h (4 * p + 3))

@@ -1,8 +1,8 @@
 -- Words that show the filling of a list show an accepted plan, whether they are lent as words or stand in bytes.
 -- Assumes nothing.
-use mathlib.Core.Path.{_≡_, refl, _∙_, sym, ap, subst}
+use mathlib.Core.Path.{_≡_, sym, ap, subst}
 use mathlib.Core.List.{List, List·Memᴰ}
-use Prim.Native.Nat.{ℕ, _+_, _-_, _≤_, _<_, min}
+use Prim.Native.Nat.{ℕ, _+_, _-_, _≤_, min}
 use native.Mathlib.Nat.{add-sub-of-le, min-le-left}
 use native.Mathlib.Omega.{arith}
 use Rattle.laws.specs.NumbersLaws.{among}
@@ -48,11 +48,6 @@ module _ (s : Settings) (list : List ℕ) (R : ℕ → ℕ) (h : Fillable s list
   pub each-place : (Q : ℕ → Type 0) → ((p : Place) → List·Memᴰ p (filled list R) → Q (p .signal)) → (i : ℕ) → Between 1 (count list) i → Q i
   each-place Q q i b = let r = filled-place list R i b (h .signals i b .unit .1) in subst Q (r .2) (q (r .0) (r .1))
 
-  each-two : (Q : ℕ → ℕ → Type 0)
-      → ((p q : Place) → List·Memᴰ p (filled list R) → List·Memᴰ q (filled list R) → Q (p .signal) (q .signal))
-      → (i j : ℕ) → Between 1 (count list) i → Between 1 (count list) j → Q i j
-  each-two Q q i j a b = each-place (λ i. Q i j) (λ p m. each-place (Q (p .signal)) (λ r n. q p r m n) j b) i a
-
   pub framed : (p : Place) → List·Memᴰ p (filled list R) → FrameInRange s (frameAt R p)
   framed = place-framed list R seven s (h .fits)
 
@@ -61,9 +56,15 @@ module _ (s : Settings) (list : List ℕ) (R : ℕ → ℕ) (h : Fillable s list
     frame i = frameOf word i
 
     -- what holds of the frame of each place holds of the frame shown of each signal
-    each-frame : (Q : ℕ → Frame → Type 0) → ((p : Place) → List·Memᴰ p (filled list R) → Q (p .signal) (frameAt R p))
+    pub each-frame : (Q : ℕ → Frame → Type 0) → ((p : Place) → List·Memᴰ p (filled list R) → Q (p .signal) (frameAt R p))
         → (i : ℕ) → Between 1 (count list) i → Q i (frame i)
     each-frame Q q = each-place (λ i. Q i (frame i)) (λ p m. subst (Q (p .signal)) (sym (shown .frame p m)) (q p m))
+
+    pub two-frames : (Q : (i j : ℕ) → (f g : Frame) → Type 0)
+        → ((p q : Place) → List·Memᴰ p (filled list R) → List·Memᴰ q (filled list R) → Q (p .signal) (q .signal) (frameAt R p) (frameAt R q))
+        → (i j : ℕ) → Between 1 (count list) i → Between 1 (count list) j → Q i j (frame i) (frame j)
+    two-frames Q q i j a b =
+        each-frame (λ i f. Q i j f (frame j)) (λ p m. each-frame (λ j g. Q (p .signal) j (frameAt R p) g) (λ r n. q p r m n) j b) i a
 
     pub frames-shown : (i : ℕ) → Between 1 (count list) i → FrameInRange s (frame i)
     frames-shown = each-frame (λ i f. FrameInRange s f) framed
@@ -82,28 +83,16 @@ module _ (s : Settings) (list : List ℕ) (R : ℕ → ℕ) (h : Fillable s list
         each-frame (λ i f. Largest (Keeps s (signalAt list i) (segment s)) (f .repetition))
         (λ p m. h .found (p .signal) (filled-own list R seven p m))
 
-    -- two places in one slot are of one unit; two in one cell are the same
-    module _ (p q : Place) (m : List·Memᴰ p (filled list R)) (n : List·Memᴰ q (filled list R)) where
-      same-unit : frame (p .signal) .slot ≡ frame (q .signal) .slot → signalAt list (p .signal) .unit ≡ signalAt list (q .signal) .unit
-      same-unit e =
-          let slot : (t : Place) → List·Memᴰ t (filled list R) → frame (t .signal) .slot ≡ t .slot = λ t k. ap (λ (f : Frame). f .slot) (shown .frame t k) in
-          one-unit list R seven 256 0 0 p q m n (sym (slot p m) ∙ e ∙ slot q n)
-
-      same-signal : (k c : ℕ) → c < 64 → Sends (frame (p .signal)) k c → Sends (frame (q .signal)) k c → p .signal ≡ q .signal
-      same-signal k c l x y =
-          let at : (t : Place) → List·Memᴰ t (filled list R) → Sends (frame (t .signal)) k c → Sends (frameAt R t) k c =
-          λ t r. subst (λ (f : Frame). Sends f k c) (shown .frame t r) in
-          let u = at p m x in
-          let v = at q n y in
-          ap (λ (t : Place). t .signal) (same-place list R seven p q m n k c l (u .0) (v .0) (u .1) (v .1))
-
     table : Table s list frame
     table =
         record {
           frames = frames-shown;
           keeps = λ i b. rule i b .has (λ z. omega (arith, z, frames-shown i b .base)) .1;
-          apart = λ i j k c a b l. each-two (λ i j. Sends (frame i) k c → Sends (frame j) k c → i ≡ j) (λ p q m n. same-signal p q m n k c l) i j a b;
-          one-unit = λ i j. each-two (λ i j. frame i .slot ≡ frame j .slot → signalAt list i .unit ≡ signalAt list j .unit) same-unit i j;
+          apart = λ i j k c a b l.
+              two-frames (λ i j f g. Sends f k c → Sends g k c → i ≡ j)
+              (λ p q m n x y. ap (λ (t : Place). t .signal) (same-place list R seven p q m n k c l (x .0) (y .0) (x .1) (y .1))) i j a b;
+          one-unit =
+              two-frames (λ i j f g. f .slot ≡ g .slot → signalAt list i .unit ≡ signalAt list j .unit) (one-unit list R seven 256 0 0);
         }
 
     -- ---- the slots used

@@ -1,12 +1,18 @@
 -- Planning a book: the bytes of its results, four little-endian words a signal, show the filling; what lies behind stays.
 -- Assumes nothing.
 use mathlib.Core.Path.{_≡_, _∙_, sym, ap, subst}
-use mathlib.Core.List.{List, List·Memᴰ, _++_}
-use Prim.Native.Nat.{ℕ, _+_, _*_, _-_, _^_, _≤_, _<_}
+use mathlib.Core.Bool.{Bool, true, false, cond}
+use mathlib.Core.List.{List, [], _∷_, List·Memᴰ, _++_}
+use mathlib.Core.Logic.{dite}
+use Prim.Native.Nat.{ℕ, zero, suc, _+_, _*_, _-_, _/_, _%_, _^_, _≤_, _<_}
+use native.Mathlib.Decide.{decLe}
+use native.Mathlib.Nat.{lt-of-not-le}
 use native.Mathlib.Omega.{arith}
-use lib.ListN.{length, getD, take, drop, length-take, length-append, length-drop, List·getD-append}
+use lib.Dec.{leb, lit≤}
+use lib.ListN.{length, getD, take, drop, length-take, length-append, length-drop, List·getD-append, List·getD-eq-default}
 use lib.Seq.{getD-take, getD-drop, getD-append-add}
 use Rattle.terms.specs.declared.Settings.{Settings}
+use Rattle.terms.specs.declared.Answer.{Answer}
 use Rattle.terms.specs.RepetitionLaws.{repetition-most}
 use Rattle.age.specs.Age.{Age, firstStart, spanOf}
 use Rattle.age.specs.AgeLaws.{wait-below}
@@ -14,8 +20,12 @@ use Rattle.age.specs.FrameLaws.{frame-bounded}
 use Rattle.planner.specs.Lists.{count, signalAt}
 use Rattle.planner.specs.Filled.{Place, filled, ResultsShow}
 use Rattle.planner.specs.CoverLaws.{filled-own}
-use Rattle.book.specs.Words.{wordAt, bytesOf, bytesAfter}
+use Rattle.book.specs.Words.{AllBelow, wordAt, byteOf, bytesOf, bytesAfter}
+use Rattle.book.proofs.RunLaws.{upTo-at}
 use Rattle.book.proofs.WordLaws.{bytes-length, word-of-bytes, bytes-after-all}
+use Rattle.editor.specs.BookPlan.{BytesPlanned, BookPlanned}
+use Rattle.editor.specs.BookPlan.BytesPlanned.{refused, done}
+use Rattle.editor.specs.BookPlan.BookPlanned.{unread, planned}
 use Rattle.editor.proofs.Unique.{all-there}
 use Rattle.promises.specs.Shows.{frameOf}
 use Rattle.promises.specs.Demand2.{Behind}
@@ -114,3 +124,42 @@ module _
 
         size : length written ≡ 16 * count list
         size = omega (arith, bytes-length (λ p. getD front p 0) (length front), long)
+
+-- ---- what is lent as bytes comes back as bytes
+
+append-below : (n : ℕ) (a b : List ℕ) → AllBelow n a → AllBelow n b → AllBelow n (a ++ b)
+append-below n [] b ha hb i = hb i
+append-below n (x ∷ xs) b ha hb zero = ha 0
+append-below n (x ∷ xs) b ha hb (suc i) = append-below n xs b (λ j. ha (suc j)) hb i
+
+drop-below : (n k : ℕ) (l : List ℕ) → AllBelow n l → AllBelow n (drop k l)
+drop-below n k l h i = subst (λ (x : ℕ). x < n) (sym (getD-drop k l i 0)) (h (k + i))
+
+byte-below : (x i : ℕ) → byteOf x i < 256
+unfolding byteOf
+byte-below x i = omega arith
+
+bytes-below : (f : ℕ → ℕ) (n : ℕ) → AllBelow 256 (bytesOf f n)
+unfolding bytesOf
+bytes-below f n j =
+    dite (decLe (4 * n) j)
+    (λ h. subst (λ (x : ℕ). x < 256) (sym (List·getD-eq-default (bytesOf f n) 0 (omega (arith, h, bytes-length f n)))) (lit≤ tt))
+    (λ h. subst (λ (x : ℕ). x < 256) (sym (upTo-at (λ j. byteOf (f (j / 4)) (j % 4)) (4 * n) j (lt-of-not-le h))) (byte-below (f (j / 4)) (j % 4)))
+
+after-below : (words bytes : List ℕ) → AllBelow 256 bytes → AllBelow 256 (bytesAfter words bytes)
+unfolding bytesAfter
+after-below words bytes h = either (leb (4 * length words) (length bytes))
+  where
+    either : (t : Bool) → AllBelow 256 (cond t (bytesOf (λ p. getD words p 0) (length words) ++ drop (4 * length words) bytes) bytes)
+    either true =
+        append-below 256 (bytesOf (λ p. getD words p 0) (length words)) (drop (4 * length words) bytes)
+        (bytes-below (λ p. getD words p 0) (length words)) (drop-below 256 (4 * length words) bytes h)
+    either false = h
+
+bytes-planned-below : (s : Settings) (list l : List ℕ) (a : Answer) (exit : List ℕ) → BytesPlanned s list l a exit → AllBelow 256 l → AllBelow 256 exit
+bytes-planned-below s list l a exit (refused r) h = h
+bytes-planned-below s list l a exit (done {blank} {words} R p found shown) h = after-below (take (4 * count list) words) l h
+
+pub book-bytes : (book l : List ℕ) (a : Answer) (exit : List ℕ) → BookPlanned book l a exit → AllBelow 256 l → AllBelow 256 exit
+book-bytes book l a exit (unread h) b = b
+book-bytes book l a exit (planned h p) b = bytes-planned-below _ _ l a exit p b

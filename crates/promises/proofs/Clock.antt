@@ -1,7 +1,7 @@
 -- Table and clock are one: the starts of a frame are the cycles that its base and repetition name, the 64 cycles of a table
 -- coming again for ever.
 -- Assumes nothing.
-use mathlib.Core.Path.{_≡_, refl, _∙_, sym, ap}
+use mathlib.Core.Path.{_≡_, refl, _∙_, ap}
 use mathlib.Core.List.{List}
 use mathlib.Core.Logic.{_↔_}
 use Prim.Native.Nat.{ℕ, _+_, _*_, _-_, _/_, _%_, _<_}
@@ -14,7 +14,6 @@ use Rattle.terms.specs.declared.Frame.{Frame}
 use Rattle.terms.specs.Ranges.{Between, Repetition, FrameInRange}
 use Rattle.terms.specs.RepetitionLaws.{repetition-most, repetition-multiple}
 use Rattle.age.specs.Age.{Start, firstStart, spanOf}
-use Rattle.cycles.specs.Frames.{Names}
 use Rattle.cycles.specs.FrameLaws.{remainder-named}
 use Rattle.promises.specs.Shows.{cellOf, Sends}
 use Rattle.promises.specs.Demand2.{StartsAt}

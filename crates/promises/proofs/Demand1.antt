@@ -2,8 +2,8 @@
 -- Assumes nothing.
 use mathlib.Core.Path.{_≡_, refl, _∙_, sym, ap, subst}
 use mathlib.Core.Bool.{Bool, true, false}
-use mathlib.Core.List.{List, [], _∷_, List·Memᴰ}
-use mathlib.Core.Logic.{_⊎_, inl, inr, _↔_, ⊎-elim, dite}
+use mathlib.Core.List.{List, [], _∷_}
+use mathlib.Core.Logic.{inl, inr, dite}
 use Prim.Native.Nat.{ℕ, _*_, _/_, _%_}
 use native.Mathlib.Decide.{ℕ-discrete, decLe}
 use native.Mathlib.Nat.{lt-of-not-le}
@@ -13,7 +13,7 @@ use borrow.Author.Tests.{ne-eqb}
 use Rattle.terms.specs.declared.Settings.{Settings}
 use Rattle.terms.specs.declared.Answer.{Answer}
 use Rattle.terms.specs.Answers.{numberOf, placeOf, packedOf}
-use Rattle.terms.specs.Ranges.{FirstFailing, LowestOutOfRange}
+use Rattle.terms.specs.Ranges.{LowestOutOfRange}
 use Rattle.planner.specs.Lists.{CountInRange, count}
 use Rattle.planner.specs.Asked.{Refused, questions}
 use Rattle.planner.specs.Filled.{needed}
@@ -22,17 +22,15 @@ use Rattle.planner.specs.Planned.Planned.{refused, done}
 use Rattle.book.specs.declared.Reading.{Reading}
 use Rattle.book.specs.Blocks.{blocksFor, writeAnswer, roomAfter}
 use Rattle.book.specs.Reading.{signalsOf, sound, readAnswer, fiveZeros, settingsIn, listIn, settingsOf, settingsGiven, listAfter}
-use Rattle.book.specs.Outcomes.{ReadOutcome, WriteOutcome}
-use Rattle.book.proofs.AnswerLaws.{settings-none, read-refused, read-short, read-done, write-refusal, write-uneven, write-many, write-short, write-done}
+use Rattle.book.proofs.AnswerLaws.{read-refused, read-short, read-done, write-refusal, write-uneven, write-many, write-short, write-done}
 use Rattle.book.proofs.ReadLaws.{read-keeps}
-use Rattle.editor.specs.Answered.{PlanAnswered, ReadAnswered, WriteAnswered}
 use Rattle.editor.specs.Words.{settingAt}
-use Rattle.editor.specs.BookPlan.{BytesPlanned, BookPlanned, BookAnswered}
+use Rattle.editor.specs.BookPlan.{BytesPlanned, BookPlanned}
 use Rattle.editor.specs.BookPlan.BytesPlanned.{refused as bytes-refused, done as bytes-done}
 use Rattle.editor.specs.BookPlan.BookPlanned.{unread, planned as read-planned}
 use Rattle.promises.specs.Calls.{Request, PlanRoom, Return, Routine, Always, Tells, Plans, PlansList, PlansBook, Reads, wordByWord, ReadsFromC, Writes, WritesFromC}
 use Rattle.promises.specs.Rows.{Row, FirstRow, Needed, planningRows, roomRow, bookRows, readingRows, writingRows, bytesRows, editorRows}
-use Rattle.promises.specs.Demand1.{Demand1, Demand1Planning, Demand1Reading, Demand1Writing, Demand1Editor, ZerosRefused}
+use Rattle.promises.specs.Demand1.{Demand1, Demand1Planning, Demand1Reading, Demand1Writing, Demand1Editor}
 use Rattle.promises.proofs.Every.{planned-exists, book-planned-exists}
 use Rattle.promises.proofs.PlaceLaws.{comes-apart, planning-small, writing-small, reading-small, editor-small}
 use Rattle.promises.proofs.RowLaws.{signal-row, pass, sound-rows, unsound-row}
@@ -191,7 +189,7 @@ module _ (book l : List ℕ) (s : Settings) (y : Return (List ℕ)) where
       (subst (ReadingRow book l) (sym (read .answer)) (read-row book l (sound book) refl))
 
   -- "a refusal gives five zeros", and changes no word of the lent list
-  reading-kept : Reads s book l y → (y .number ≡ 0 → ⊥) → (s ≡ fiveZeros) × (y .lent ≡ l)
+  pub reading-kept : Reads s book l y → (y .number ≡ 0 → ⊥) → (s ≡ fiveZeros) × (y .lent ≡ l)
   reading-kept (r, read, e, t) n = let kept = read-keeps read (λ z. n (t .0 ∙ z)) in (e ∙ kept .0, kept .1)
 
   -- the C calls give what reading gives, but for the settings where it refuses
@@ -215,13 +213,6 @@ read-1 =
       numbered = λ book l y p. reading-row book l (p .0) y (p .1);
       unchanged = λ book l y p n. reading-kept book l (p .0) y (p .1) n .1;
     }
-
-pub read-zeros : ZerosRefused Reads
-read-zeros s book l y p n = reading-kept book l s y p n .0
-
--- from C the settings are those of a sound book, and else five zeros
-pub read-c-zeros : (s : Settings) → Always (ReadsFromC s) (λ book l y. sound book ≡ false → s ≡ fiveZeros)
-read-c-zeros s book l y p h = p .2 ∙ settings-none book h
 
 pub read-c-1 : Demand1Reading ReadsFromC
 read-c-1 =

@@ -1,9 +1,9 @@
 -- Every routine keeps demand 2: plans over words and of a book; and books that are read and written, also from C.
 -- Assumes nothing.
 use mathlib.Core.Path.{_≡_, refl, _∙_, sym, ap, subst}
-use mathlib.Core.Bool.{true}
-use mathlib.Core.List.{List, _++_}
-use mathlib.Core.Logic.{inl, inr}
+use mathlib.Core.Bool.{Bool, true, false}
+use mathlib.Core.List.{List, [], _∷_, _++_}
+use mathlib.Core.Logic.{_⊎_, inl, inr, ⊎-elim}
 use Prim.Native.Nat.{ℕ, _*_, _≤_}
 use native.Mathlib.Omega.{arith}
 use lib.ListN.{length, take, drop}
@@ -14,18 +14,21 @@ use Rattle.terms.specs.Answers.{numberOf, placeOf}
 use Rattle.terms.specs.Ranges.{Between}
 use Rattle.planner.specs.Lists.{CountInRange, count, signalAt}
 use Rattle.book.specs.Blocks.{blocksFor}
-use Rattle.book.specs.Reading.{signalsOf, sound, settingsIn, listIn}
+use Rattle.book.specs.Reading.{signalsOf, sound, settingsIn, fiveZeros, listIn}
 use Rattle.book.specs.Outcomes.{ReadOutcome, WriteOutcome}
 use Rattle.book.proofs.SoundLaws.{sound-facts}
-use Rattle.book.proofs.AnswerLaws.{read-given, write-filled, settings-some}
+use Rattle.book.proofs.AnswerLaws.{read-given, write-filled, settings-some, settings-none}
 use Rattle.book.proofs.RoundTrips.{write-then-read, read-then-write, read-facts}
 use Rattle.promises.specs.Calls.{Request, Return, WhereDone, Tells, Plans, PlansList, PlansBook, Reads, ReadsFromC, Writes, WritesFromC}
-use Rattle.promises.specs.Rows.{FirstRow, writingRows}
-use Rattle.promises.specs.Shows.{frameOf, ageOf}
+use Rattle.promises.specs.Rows.{Row, FirstRow, Hold, roomRow, bookRows, writingRows}
+use Rattle.promises.specs.Shows.{frameOf, ageOf, overWords}
 use Rattle.promises.specs.Demand2.{AgeShown, Demand2Planning, Demand2Editor, Demand2Books}
 use Rattle.promises.proofs.Accepted.{ages-shown}
-use Rattle.promises.proofs.Found.{FoundPlan, words-found, book-found}
-use Rattle.promises.proofs.Demand1.{list-plans, c-reads, write-1, c-writes}
+use Rattle.promises.proofs.Bytes.{book-bytes}
+use Rattle.promises.proofs.Lit.{slots-lit}
+use Rattle.promises.proofs.Found.{FoundPlan, found-accepted, words-found, book-found}
+use Rattle.promises.proofs.RowLaws.{sound-rows, rows-sound, book-number}
+use Rattle.promises.proofs.Demand1.{list-plans, reading-kept, c-reads, read-c-1, write-1, c-writes}
 
 -- ---- plans
 
@@ -40,6 +43,11 @@ plan-2 =
       table = λ x l y p z. words-found x l y p z .table;
       cells-behind = λ x l y p z. words-found x l y p z .cells-behind;
       results-behind = λ x l y p z. words-found x l y p z .results-behind;
+      slots = λ x l y p z.
+          let f = words-found x l y p z in
+          slots-lit (x .settings) (count (x .list)) (frameOf (overWords .word (y .lent))) (y .lent .cells)
+          (λ i b. found-ages (x .settings) (x .list) (y .place) _ (f .found) i b .frame) (f .table)
+          ∙ found-accepted (x .settings) (x .list) (y .place) _ (f .found) .used;
     }
 
 pub plan-list-2 : Demand2Planning PlansList
@@ -49,6 +57,7 @@ plan-list-2 =
       table = λ x l y p. plan-2 .table x l y (list-plans x l y p);
       cells-behind = λ x l y p. plan-2 .cells-behind x l y (list-plans x l y p);
       results-behind = λ x l y p. plan-2 .results-behind x l y (list-plans x l y p);
+      slots = λ x l y p. plan-2 .slots x l y (list-plans x l y p);
     }
 
 pub plan-book-2 : Demand2Editor PlansBook
@@ -56,6 +65,7 @@ plan-book-2 =
     record {
       ages = λ book l y p z. found-ages (settingsIn book) (listIn book) (y .place) _ (book-found book l y p z .found);
       behind = λ book l y p z. book-found book l y p z .behind;
+      bytes = λ book l y p. book-bytes book l (p .1 .given) (y .lent) (p .1 .plan);
     }
 
 -- ---- books
@@ -93,10 +103,11 @@ read-done s book l y p z =
     let given = read-given book l (a .sound) (a .enough) in
     (a .sound, p .2 ∙ p .1 .settings ∙ sym (given .0), p .1 .list ∙ sym (given .1))
 
-pub books-2 : Demand2Books Reads Writes
+pub books-2 : Demand2Books (λ n. n ≡ 0) Reads Writes
 books-2 =
     record {
       settings-read = λ s book l y p z. read-done s book l y p z .1;
+      zeros-read = λ s book l y p n. reading-kept book l s y p n .0;
       list-read = λ s book l y p z. read-done s book l y p z .2;
       written = λ x l y p z.
           let w = written-room x l (y .number) (y .place) (write-1 .numbered x l y p) z in
@@ -125,17 +136,42 @@ books-2 =
           };
     }
 
--- from C the settings come word by word; where the reading is done they are those that it gives
+-- from C the settings come word by word, and are those of a sound book; where the reading is done they are those that it gives
 c-reads-done : (s : Settings) → WhereDone (ReadsFromC s) (Reads s)
 c-reads-done s book l y p z =
     let q = c-reads book l s y p in
     let given = read-done (q .0) book l y (q .1) z in
     subst (λ (t : Settings). Reads t book l y) (given .1 ∙ sym (settings-some book (given .0)) ∙ sym (p .2)) (q .1)
 
-pub books-c-2 : Demand2Books ReadsFromC WritesFromC
+-- a book is sound where the number is 0 or 10, and else its settings are five zeros
+module _ (s : Settings) (book l : List ℕ) (y : Return (List ℕ)) (p : ReadsFromC s book l y) where
+  abbrev last : List Row
+  last = roomRow (5 * signalsOf book) (length l) ∷ []
+
+  so-far : (Between 1 5 (y .number) × (Hold (bookRows book) → ⊥)) ⊎ (Hold (bookRows book) × FirstRow last (λ q. q ≡ signalsOf book) (y .number) (y .place))
+  so-far = book-number book last (λ q. q ≡ signalsOf book) (y .number) (y .place) (read-c-1 .numbered book l y (s, p))
+
+  c-settings : (y .number ≡ 0) ⊎ (y .number ≡ 10) → s ≡ settingsIn book
+  c-settings g =
+      ⊎-elim (λ f. absurd (⊎-elim (λ z. omega (arith, f .0, z)) (λ t. omega (arith, f .0, t)) g))
+      (λ h. p .2 ∙ settings-some book (rows-sound book (h .0))) so-far
+
+  c-zeros : ((y .number ≡ 0) ⊎ (y .number ≡ 10) → ⊥) → s ≡ fiveZeros
+  c-zeros n = ⊎-elim (λ f. unsound (sound book) refl (f .1)) (λ h. absurd (room (h .1))) so-far
+    where
+      unsound : (t : Bool) → sound book ≡ t → (Hold (bookRows book) → ⊥) → s ≡ fiveZeros
+      unsound true e f = absurd (f (sound-rows book e))
+      unsound false e f = p .2 ∙ settings-none book e
+
+      room : FirstRow last (λ q. q ≡ signalsOf book) (y .number) (y .place) → ⊥
+      room (inl (f, e, q)) = n (inr e)
+      room (inr (r, (e, q))) = n (inl e)
+
+pub books-c-2 : Demand2Books (λ n. (n ≡ 0) ⊎ (n ≡ 10)) ReadsFromC WritesFromC
 books-c-2 =
     record {
-      settings-read = λ s book l y p z. books-2 .settings-read s book l y (c-reads-done s book l y p z) z;
+      settings-read = λ s book l y p. c-settings s book l y p;
+      zeros-read = λ s book l y p. c-zeros s book l y p;
       list-read = λ s book l y p z. books-2 .list-read s book l y (c-reads-done s book l y p z) z;
       written = λ x l y p. books-2 .written x l y (c-writes x l y p);
       same-values = λ x room w p z settings words s book l y q same enough.

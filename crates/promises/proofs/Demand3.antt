@@ -1,4 +1,4 @@
--- Every way to plan keeps demand 3: over words, a list from C, and a book from the editor.
+-- Every way to plan keeps demand 3 and fills the table as the scope says: over words, a list from C, and a book from the editor.
 -- Assumes nothing.
 use mathlib.Core.Path.{_≡_, sym, subst}
 use mathlib.Core.List.{List, [], _∷_}
@@ -9,19 +9,19 @@ use lib.ListN.{length}
 use Rattle.terms.specs.declared.Settings.{Settings}
 use Rattle.terms.specs.declared.Frame.{Frame}
 use Rattle.terms.specs.Ranges.{SettingsInRange, SignalInRange}
-use Rattle.planner.specs.Lists.{CountInRange, count, EachSignal, Kept, Repetitions}
+use Rattle.planner.specs.Lists.{count, EachSignal, Kept, Repetitions}
 use Rattle.planner.specs.Filled.{needed}
 use Rattle.book.specs.Reading.{settingsIn, listIn}
 use Rattle.promises.specs.Calls.{Request, PlanRoom, Routine, Always, WhereDone, Plans, PlansList, PlansBook}
 use Rattle.promises.specs.Rows.{FirstRow, settingRow, countRow, roomRow, Needed, signalRows, planningRows, bookRows, bytesRows, editorRows}
-use Rattle.promises.specs.Shows.{frameOf, ageOf, Planning, overWords, fromBook}
+use Rattle.promises.specs.Shows.{frameOf, Planning, overWords, fromBook}
 use Rattle.promises.specs.Tables.{Table}
-use Rattle.promises.specs.Changes.{Eased}
-use Rattle.promises.specs.Demand3.{AcceptedPlan, Ready, Demand3}
-use Rattle.promises.proofs.Accepted.{plan-accepted}
+use Rattle.promises.specs.Demand3.{Ready, Demand3}
+use Rattle.promises.specs.Filling.{FillingShown, ShowsFilling}
 use Rattle.promises.proofs.Easing.{eased-count, signals-eased, kept-eased, needed-eased}
 use Rattle.promises.proofs.Fewest.{needed-least, used-most}
-use Rattle.promises.proofs.Found.{FoundPlan, words-found, book-found}
+use Rattle.promises.proofs.FillingLaws.{filling-shown}
+use Rattle.promises.proofs.Found.{FoundPlan, found-accepted, words-found, book-found}
 use Rattle.promises.proofs.Demand1.{plan-1, list-plans, plan-list-1, plan-book-1}
 use Rattle.promises.proofs.RowLaws.{past}
 
@@ -33,12 +33,6 @@ accepted-within s list m signals kept least fits n p (inl f) = absurd (f .0 sign
 accepted-within s list m signals kept least fits n p (inr (h, inl f)) = absurd (f .0 kept)
 accepted-within s list m signals kept least fits n p (inr (h, inr (k, inl f))) = absurd (f .0 (λ R r. omega (arith, least R r)))
 accepted-within s list m signals kept least fits n p (inr (h, inr (k, inr (l, (z, (R, r, e)))))) = (z, omega (arith, least R r, e))
-
-found-accepted : (s : Settings) (list : List ℕ) (place : ℕ) (word : ℕ → ℕ) → FoundPlan s list place word
-    → AcceptedPlan s list place (frameOf word) (ageOf word)
-found-accepted s list place word f =
-    subst (λ (n : ℕ). AcceptedPlan s list n (frameOf word) (ageOf word)) (sym (f .needs))
-    (plan-accepted s list (f .R) (f .fillable) word (f .shows))
 
 -- any way to plan that asks the rows of its signals where it is ready, and shows what it has found where it accepts
 module _
@@ -123,3 +117,17 @@ pub plan-book-3 : Demand3 fromBook PlansBook
 plan-book-3 =
     planning-3 fromBook PlansBook (λ book l y g h. book-rows book l h (y .number) (y .place) (plan-book-1 .numbered book l y g))
     (λ book l y g z. book-found book l y g z .found)
+
+-- ---- and they fill the table as the scope says
+
+found-fills : (s : Settings) (list : List ℕ) (place : ℕ) (word : ℕ → ℕ) → FoundPlan s list place word → FillingShown list (frameOf word)
+found-fills s list place word f = filling-shown s list (f .R) (f .fillable) word (f .shows)
+
+pub plan-fills : ShowsFilling overWords Plans
+plan-fills x l y g z = found-fills _ _ _ _ (words-found x l y g z .found)
+
+pub plan-list-fills : ShowsFilling overWords PlansList
+plan-list-fills x l y g = plan-fills x l y (list-plans x l y g)
+
+pub plan-book-fills : ShowsFilling fromBook PlansBook
+plan-book-fills book l y g z = found-fills _ _ _ _ (book-found book l y g z .found)

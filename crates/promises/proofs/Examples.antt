@@ -24,7 +24,7 @@ use Rattle.promises.specs.Shows.{Sends}
 use Rattle.promises.specs.Demand2.{Releases, StartsAt, Behind}
 use Rattle.promises.specs.Changes.{RaisedSignal, Eased}
 use Rattle.promises.specs.Inputs.{settings, fresh, stale, case1, case3, twice}
-use Rattle.promises.proofs.Named.{fresh-valid, stale-valid, fresh-gets, stale-gets, at-one, settings-words}
+use Rattle.promises.proofs.Named.{fresh-valid, fresh-gets, stale-gets, at-one, settings-words}
 use Rattle.promises.proofs.Releasing.{releases}
 use Rattle.promises.proofs.Clock.{starts-named}
 

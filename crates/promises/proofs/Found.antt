@@ -1,7 +1,7 @@
 -- What an accepted call has found and shows: over words, and of a book in bytes.
 -- Assumes nothing.
 use mathlib.Core.Path.{_≡_, refl, _∙_, sym, ap, subst}
-use mathlib.Core.Bool.{true, true≢false}
+use mathlib.Core.Bool.{true≢false}
 use mathlib.Core.List.{List}
 use mathlib.Core.Logic.{inl, inr}
 use Prim.Native.Nat.{ℕ, _*_}
@@ -25,9 +25,10 @@ use Rattle.editor.specs.BookPlan.{bookQuestions, BytesPlanned, BookPlanned}
 use Rattle.editor.specs.BookPlan.BytesPlanned.{refused as bytes-refused, done as bytes-done}
 use Rattle.editor.specs.BookPlan.BookPlanned.{unread, planned}
 use Rattle.promises.specs.Calls.{Request, PlanRoom, Return, Plans, PlansBook}
-use Rattle.promises.specs.Shows.{frameOf, overWords}
+use Rattle.promises.specs.Shows.{frameOf, ageOf, overWords}
 use Rattle.promises.specs.Demand2.{TableShown, Behind}
-use Rattle.promises.proofs.Accepted.{Fillable, ShowsFilled}
+use Rattle.promises.specs.Demand3.{AcceptedPlan}
+use Rattle.promises.proofs.Accepted.{Fillable, ShowsFilled, plan-accepted}
 use Rattle.promises.proofs.Words.{words-show, table-shown}
 use Rattle.promises.proofs.Bytes.{bytes-show, bytes-behind}
 use Rattle.promises.proofs.Demand1.{book-plans}
@@ -37,6 +38,13 @@ pub record FoundPlan (s : Settings) (list : List ℕ) (place : ℕ) (word : ℕ 
   pub fillable : Fillable s list R
   pub shows : ShowsFilled s list R word
   pub needs : place ≡ needed list R
+
+-- it is an accepted plan
+pub found-accepted : (s : Settings) (list : List ℕ) (place : ℕ) (word : ℕ → ℕ) → FoundPlan s list place word
+    → AcceptedPlan s list place (frameOf word) (ageOf word)
+found-accepted s list place word f =
+    subst (λ (n : ℕ). AcceptedPlan s list n (frameOf word) (ageOf word)) (sym (f .needs))
+    (plan-accepted s list (f .R) (f .fillable) word (f .shows))
 
 -- ---- over words: the table too, and what lies behind
 

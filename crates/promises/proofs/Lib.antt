@@ -6,10 +6,13 @@ pub mod Placing
 pub mod Releasing
 pub mod Clock
 pub mod Accepted
+pub mod RunOrder
+pub mod FillingLaws
 pub mod Words
 pub mod Bytes
 pub mod Deciding
 pub mod Every
+pub mod Lit
 pub mod RowLaws
 pub mod PlaceLaws
 pub mod Demand1
@@ -17,6 +20,8 @@ pub mod Found
 pub mod Demand2
 pub mod Demand3
 pub mod Consequences
+pub mod OnePlan
+pub mod Determined
 pub mod Named
 pub mod Shams
 pub mod Examples

@@ -13,7 +13,7 @@ use Rattle.terms.specs.Ranges.{LowestOutOfRange}
 use Rattle.cycles.specs.Loads.{slotsFor}
 use Rattle.filling.specs.SumLaws.{sum-le, sum-const}
 use Rattle.planner.specs.Lists.{count}
-use Rattle.planner.specs.Filled.{unitLoad, needed}
+use Rattle.planner.specs.Filled.{unitLoad}
 use Rattle.planner.specs.LoadLaws.{unit-slots-small}
 use Rattle.book.specs.declared.Test.{Test}
 use Rattle.book.specs.Blocks.{blocksFor}

@@ -49,12 +49,12 @@ frameAt R p = record { slot = p .slot; repetition = R (p .signal); base = p .bas
 
 module _ (list : List ℕ) (R : ℕ → ℕ) (seven : (i : ℕ) → Between 1 (count list) i → Repetition (R i)) where
   -- a place of a run after k slots that ends with slot e, of unit u
-  record InRun (u k e : ℕ) (p : Place) : Type 0 where
-    signal : Between 1 (count list) (p .signal)
-    unit : signalAt list (p .signal) .unit ≡ u
-    base : p .base < R (p .signal)
-    low : k < p .slot
-    high : p .slot ≤ e
+  pub record InRun (u k e : ℕ) (p : Place) : Type 0 where
+    pub signal : Between 1 (count list) (p .signal)
+    pub unit : signalAt list (p .signal) .unit ≡ u
+    pub base : p .base < R (p .signal)
+    pub low : k < p .slot
+    pub high : p .slot ≤ e
 
   run-places : (u k e : ℕ) (fs : List UnitFrame) → Each (OwnFrame list R u) fs → (t : State)
       → Each (λ p. (k < p .slot) × Valid (e + 1) p) (run t (exponents fs))
@@ -74,7 +74,7 @@ module _ (list : List ℕ) (R : ℕ → ℕ) (seven : (i : ℕ) → Between 1 (c
       entry first (run-places u k e fs os (after t (exponent (f .repetition))) vs)
 
   -- a unit's places
-  in-run : (u k : ℕ) → Each (InRun u k (last k (exponentsOf list R u))) (placesOf (ordered (framesOfUnit list R u)) (run (start k) (exponentsOf list R u)))
+  pub in-run : (u k : ℕ) → Each (InRun u k (last k (exponentsOf list R u))) (placesOf (ordered (framesOfUnit list R u)) (run (start k) (exponentsOf list R u)))
   in-run u k =
       let ps = run (start k) (exponentsOf list R u) in
       run-places u k (last k (exponentsOf list R u)) (ordered (framesOfUnit list R u)) (ordered-own list R seven u) (start k)

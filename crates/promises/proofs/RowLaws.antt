@@ -5,12 +5,13 @@ use mathlib.Core.Bool.{Bool, true, false, true≢false, false≢true}
 use mathlib.Core.List.{List, [], _∷_, _++_, List·Memᴰ, List·Memᴰ·head, List·Memᴰ·tail}
 use mathlib.Core.Logic.{_⊎_, inl, inr, _↔_, ⊎-elim}
 use Prim.Native.Nat.{ℕ}
+use native.Mathlib.Omega.{arith}
 use lib.Dec.{eqb}
 use Rattle.terms.specs.declared.Settings.{Settings}
 use Rattle.terms.specs.declared.Answer.{Answer}
 use Rattle.terms.specs.declared.Answer.the-variants.{Length, Check, Kind, Count, Zero, Done}
 use Rattle.terms.specs.Answers.{numberOf, placeOf}
-use Rattle.terms.specs.Ranges.{FirstFailing, SignalInRange}
+use Rattle.terms.specs.Ranges.{Between, FirstFailing, SignalInRange}
 use Rattle.terms.specs.RangesLaws.{first-failing-unique}
 use Rattle.planner.specs.Lists.{LowestWithout, Kept}
 use Rattle.planner.specs.Asked.{Refused, signalQuestions}
@@ -110,3 +111,13 @@ module _ (book : List ℕ) where
       (unless-row done 4 (λ p. p ≡ 0) zero (passes book Test.Count) Count _ refl refl
       (unless-row done 5 (λ p. p ≡ firstWrong book Test.Zero) rest (passes book Test.Zero) (Zero (firstWrong book Test.Zero)) (Done (signalsOf book)) refl refl
       (λ h. absurd (true≢false h))))))
+
+  -- so a number from 1 to 5 is that of a row that does not hold, and any other comes of what is asked after
+  pub book-number : (rest : List Row) (done : ℕ → Type 0) (n p : ℕ) → FirstRow (bookRows book ++ rest) done n p
+      → (Between 1 5 n × (Hold (bookRows book) → ⊥)) ⊎ (Hold (bookRows book) × FirstRow rest done n p)
+  book-number rest done n p (inl (f, e, q)) = inl (omega (arith, e), λ h. f (h .0))
+  book-number rest done n p (inr (a, inl (f, e, q))) = inl (omega (arith, e), λ h. f (h .1 .0))
+  book-number rest done n p (inr (a, inr (b, inl (f, e, q)))) = inl (omega (arith, e), λ h. f (h .1 .1 .0))
+  book-number rest done n p (inr (a, inr (b, inr (c, inl (f, e, q))))) = inl (omega (arith, e), λ h. f (h .1 .1 .1 .0))
+  book-number rest done n p (inr (a, inr (b, inr (c, inr (d, inl (f, e, q)))))) = inl (omega (arith, e), λ h. f (h .1 .1 .1 .1 .0))
+  book-number rest done n p (inr (a, inr (b, inr (c, inr (d, inr (z, r)))))) = inr ((a, (b, (c, (d, (z, tt))))), r)

@@ -2,15 +2,14 @@
 -- Assumes nothing.
 use mathlib.Core.Path.{_≡_, refl, _∙_, sym, ap, subst}
 use mathlib.Core.List.{List, [], _∷_, _++_}
-use mathlib.Core.Logic.{inl, inr}
+use mathlib.Core.Logic.{_⊎_, inl, inr, ⊎-elim}
 use Prim.Native.Nat.{ℕ, _+_, _*_, _-_, _≤_, _<_}
 use native.Mathlib.Omega.{arith}
 use lib.Dec.{lit≤}
 use lib.ListN.{length, getD, drop, getD-replicate}
 use Rattle.laws.specs.DivisorLaws.{euclid}
 use Rattle.terms.specs.declared.Settings.{Settings}
-use Rattle.terms.specs.declared.Frame.{Frame}
-use Rattle.terms.specs.Ranges.{Between, FrameInRange}
+use Rattle.terms.specs.Ranges.{Between}
 use Rattle.terms.specs.RepetitionLaws.{repetition-most}
 use Rattle.age.specs.Age.{Age, firstStart, spanOf}
 use Rattle.age.specs.AgeLaws.{age-unique}
@@ -18,19 +17,20 @@ use Rattle.age.specs.AgeTests.{age-test}
 use Rattle.cycles.specs.Frames.{Names}
 use Rattle.filling.specs.Sums.{sum, same}
 use Rattle.planner.specs.Lists.{count, signalAt}
-use Rattle.book.specs.Words.{wordAt}
+use Rattle.book.specs.Words.{AllBelow, wordAt}
 use Rattle.book.specs.Blocks.{bookWord, bookOf}
 use Rattle.book.specs.Reading.{signalsOf, settingsIn, listIn}
 use Rattle.promises.specs.Calls.{Request, PlanRoom, Return, Routine}
 use Rattle.promises.specs.Rows.{Row, FirstRow, roomRow, bookRows, writingRows}
 use Rattle.promises.specs.Shows.{frameOf, ageOf, cellOf, Sends, overWords, fromBook}
 use Rattle.promises.specs.Demand1.{Demand1Reading, Demand1Writing}
-use Rattle.promises.specs.Demand2.{Demand2Planning, Demand2Books}
+use Rattle.promises.specs.Demand2.{Demand2Planning, Demand2Editor, Demand2Books}
 use Rattle.promises.specs.Tables.{slotsUsed}
 use Rattle.promises.specs.Demand3.{AcceptedPlan, Demand3}
-use Rattle.promises.specs.Inputs.{settings, asked, fresh, half, case1, twice, single, pair, blank, sixty-four, often, invented, spread, colliding, case1-book, pair-book, exchanged}
+use Rattle.promises.specs.Filling.{FillingShown, ShowsFilling}
+use Rattle.promises.specs.Inputs.{settings, asked, fresh, half, case1, twice, single, pair, blank, sixty-four, slot-two, often, invented, spread, colliding, case1-book, pair-book, exchanged}
 use Rattle.promises.proofs.Bytes.{word-in-front}
-use Rattle.promises.proofs.Named.{half-gets, slot1, case1-table, case1-ready, case1-holds, pair-holds}
+use Rattle.promises.proofs.Named.{half-gets, at-one, slot1, case1-table, case1-ready, case1-holds, pair-holds}
 use Rattle.promises.proofs.RowLaws.{past, sound-rows}
 
 -- the words of results that are known
@@ -123,6 +123,14 @@ module _ (Gives : Routine Request PlanRoom) where
           let two = half-gets .has (λ e. omega (arith, e)) in
           omega (arith, accepted single often g e .rule 1 (lit≤ tt, lit≤ tt) .largest 2 (two .0) (two .1))
 
+  -- ---- what breaks the order of filling: the second slot, where the first is not used
+
+  pub second-slot : ShowsFilling overWords Gives → (l : PlanRoom) (y : Return PlanRoom) → y .number ≡ 0 → Gives (asked case1) l y → y .lent .results ≡ slot-two → ⊥
+  second-slot keeps l y z g e =
+      let shown = subst (λ (r : List ℕ). FillingShown case1 (frameOf (wordsOf r))) e (keeps (asked case1) l y g z) in
+      let first = shown .lowest 1 1 (lit≤ tt, lit≤ tt) (lit≤ tt, lit≤ tt) in
+      omega (arith, at-one (λ i. frameOf (wordsOf slot-two) i .slot ≡ 2) refl (first .0) (first .1), first .2)
+
 -- what they show is true as far as it goes: the ages are the definition's
 pub sixty-four-true : Age settings fresh (frameOf (wordsOf sixty-four) 1) (ageOf (wordsOf sixty-four) 1)
 unfolding euclid
@@ -156,6 +164,11 @@ module _ (Gives : Routine (List ℕ) (List ℕ)) (keeps : Demand3 fromBook Gives
       let second : Names 2 1 1 = record { repetition = (1, lit≤ tt, refl); base = lit≤ tt; again = (0, refl) } in
       omega (arith, shown-plan colliding e .table .apart 1 2 1 1 (lit≤ tt, lit≤ tt) (lit≤ tt, lit≤ tt) (lit≤ tt) (refl, first) (refl, second))
 
+-- shows each word in its first byte: an age of 2,516 is none
+pub not-a-byte : (Gives : Routine (List ℕ) (List ℕ)) → Demand2Editor Gives → (book l : List ℕ) (y : Return (List ℕ)) → Gives book l y → AllBelow 256 l
+    → (j : ℕ) → getD (y .lent) j 0 ≡ 2516 → ⊥
+not-a-byte Gives keeps book l y g below j e = omega (arith, keeps .bytes book l y g below j, e)
+
 -- ---- books
 
 -- a reader that refuses all books, as with 1: every row of the book of case 1 holds
@@ -186,8 +199,15 @@ refuses-all-values Gives keeps l y enough g = done (keeps .numbered (asked case1
     done (inr (k, inl (f, e, p))) = absurd (f enough)
     done (inr (k, inr (r, (e, p)))) = e
 
+-- a reader whose refusals from C come with settings: number 1 and a cycle of 2,500
+pub refuses-with-settings : (Reads : Settings → Routine (List ℕ) (List ℕ)) (Writes : Routine Request (List ℕ))
+    → Demand2Books (λ n. (n ≡ 0) ⊎ (n ≡ 10)) Reads Writes → (book l : List ℕ) (y : Return (List ℕ)) → y .number ≡ 1 → Reads settings book l y → ⊥
+refuses-with-settings Reads Writes keeps book l y e r =
+    let zeros = keeps .zeros-read settings book l y r (λ g. ⊎-elim (λ z. omega (arith, e, z)) (λ t. omega (arith, e, t)) g) in
+    omega (arith, ap (λ (s : Settings). s .cycle) zeros)
+
 -- a reader and a writer that both take word 2 for the slot length and word 3 for the cycle length
-module _ (Reads : Settings → Routine (List ℕ) (List ℕ)) (Writes : Routine Request (List ℕ)) (keeps : Demand2Books Reads Writes) (l : List ℕ) (y : Return (List ℕ))
+module _ (Reads : Settings → Routine (List ℕ) (List ℕ)) (Writes : Routine Request (List ℕ)) (keeps : Demand2Books (λ n. n ≡ 0) Reads Writes) (l : List ℕ) (y : Return (List ℕ))
     (z : y .number ≡ 0) where
   pub reads-exchanged : Reads (exchanged settings) case1-book l y → ⊥
   reads-exchanged r =

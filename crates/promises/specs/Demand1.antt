@@ -6,7 +6,7 @@ use Prim.Native.Nat.{ℕ}
 use Rattle.terms.specs.declared.Settings.{Settings}
 use Rattle.planner.specs.Lists.{count}
 use Rattle.book.specs.Blocks.{blocksFor}
-use Rattle.book.specs.Reading.{signalsOf, settingsIn, fiveZeros, listIn}
+use Rattle.book.specs.Reading.{signalsOf, settingsIn, listIn}
 use Rattle.promises.specs.Calls.{Request, PlanRoom, Return, Routine, Always}
 use Rattle.promises.specs.Rows.{Row, FirstRow, Needed, planningRows, readingRows, writingRows, editorRows}
 
@@ -37,7 +37,3 @@ Demand1Writing Gives = Demand1 writingRows (λ x p. p ≡ blocksFor (count (x .l
 
 abbrev pub Demand1Reading : (Settings → Routine (List ℕ) (List ℕ)) → Type 1
 Demand1Reading Gives = Demand1 readingRows (λ book p. p ≡ signalsOf book) (λ book l y. (s : Settings) × Gives s book l y)
-
--- the settings that reading gives: "a refusal gives five zeros"
-abbrev pub ZerosRefused : (Settings → Routine (List ℕ) (List ℕ)) → Type 0
-ZerosRefused Gives = (s : Settings) → Always (Gives s) (λ book l y. (y .number ≡ 0 → ⊥) → s ≡ fiveZeros)

@@ -14,8 +14,9 @@ use Rattle.age.specs.Age.{Start, Release, firstStart, spanOf, Age}
 use Rattle.planner.specs.Lists.{count, signalAt}
 use Rattle.book.specs.Words.{AllBelow}
 use Rattle.book.specs.Blocks.{AreWords, blocksFor, bookOf}
-use Rattle.book.specs.Reading.{signalsOf, settingsIn, listIn}
+use Rattle.book.specs.Reading.{signalsOf, settingsIn, fiveZeros, listIn}
 use Rattle.promises.specs.Calls.{Request, PlanRoom, Return, Routine, Always, WhereDone}
+use Rattle.promises.specs.Tables.{slotsShown}
 use Rattle.promises.specs.Shows.{frameOf, ageOf, cellOf, Sends, Planning, overWords, fromBook}
 
 -- "Releases fall exactly at offset plus whole periods, for ever." `Release` says so; hence the first is at the offset, each is
@@ -72,10 +73,14 @@ pub record Demand2Planning (Gives : Routine Request PlanRoom) : Type 0 where
       WhereDone Gives (λ x l y. TableShown (x .settings) (count (x .list)) (frameOf (overWords .word (y .lent))) (y .lent .cells))
   pub cells-behind : WhereDone Gives (λ x l y. Behind (64 * x .settings .slots) (l .cells) (y .lent .cells))
   pub results-behind : WhereDone Gives (λ x l y. Behind (4 * count (x .list)) (l .results) (y .lent .results))
+  -- "the number is that of slots with a nonzero cell"
+  pub slots : WhereDone Gives (λ x l y. slotsShown (x .settings .slots) (y .lent .cells) ≡ y .place)
 
 pub record Demand2Editor (Gives : Routine (List ℕ) (List ℕ)) : Type 0 where
   pub ages : WhereDone Gives (λ book l y. Ages fromBook book (y .lent))
   pub behind : WhereDone Gives (λ book l y. Behind (16 * count (listIn book)) l (y .lent))
+  -- what is lent as bytes comes back as bytes
+  pub bytes : Always Gives (λ book l y. AllBelow 256 l → AllBelow 256 (y .lent))
 
 -- ---- of books
 
@@ -92,28 +97,35 @@ pub record WrittenBack (book l : List ℕ) (y : Return (List ℕ)) : Type 0 wher
   pub blocks : 512 * y .place ≡ length book
   pub bytes : y .lent ≡ book ++ drop (length book) l
 
-pub record Demand2Books (Reads : Settings → Routine (List ℕ) (List ℕ)) (Writes : Routine Request (List ℕ)) : Type 0 where
-  -- what a book's words mean: reading gives the settings and the list that stand in it, as "The book of blocks" lays it out, and
-  -- writing gives that book; what lies behind stays
-  pub settings-read : (s : Settings) → WhereDone (Reads s) (λ book l y. s ≡ settingsIn book)
-  pub list-read : (s : Settings) → WhereDone (Reads s) (λ book l y. y .lent ≡ listIn book ++ drop (5 * signalsOf book) l)
-  pub written :
-      WhereDone Writes (λ x l y. y .lent ≡ bookOf (x .settings) (x .list) ++ drop (512 * blocksFor (count (x .list))) l)
-  -- "Writing and reading a book give back the same values": reading the blocks that were written, into room enough
-  pub same-values :
-      WhereDone Writes
-      (λ x room w.
-      AreWords (x .settings) →
-      AllBelow (2 ^ 32) (x .list) →
-      (s : Settings) →
-      Always (Reads s)
-      (λ book l y. book ≡ take (512 * w .place) (w .lent) → length (x .list) ≤ length l → GivenBack x l s y))
-  -- "and the same bytes": writing the values that were read, into room enough
-  pub same-bytes :
-      (s : Settings) →
-      WhereDone (Reads s)
-      (λ book l y.
-      AllBelow 256 book →
-      Always Writes
-      (λ x room w.
-      x ≡ record { settings = s; list = take (5 * y .place) (y .lent) } → length book ≤ length room → WrittenBack book room w))
+-- `With` are the numbers with which a reader gives settings: 0, and from C 10 too, for there they are asked for by themselves
+pub record Demand2Books
+    (With : ℕ → Type 0)
+    (Reads : Settings → Routine (List ℕ) (List ℕ))
+    (Writes : Routine Request (List ℕ))
+    : Type 0
+  where
+    -- what a book's words mean: reading gives the settings and the list that stand in it, as "The book of blocks" lays it out, and
+    -- writing gives that book; what lies behind stays; "a refusal gives five zeros"
+    pub settings-read : (s : Settings) → Always (Reads s) (λ book l y. With (y .number) → s ≡ settingsIn book)
+    pub zeros-read : (s : Settings) → Always (Reads s) (λ book l y. (With (y .number) → ⊥) → s ≡ fiveZeros)
+    pub list-read : (s : Settings) → WhereDone (Reads s) (λ book l y. y .lent ≡ listIn book ++ drop (5 * signalsOf book) l)
+    pub written :
+        WhereDone Writes (λ x l y. y .lent ≡ bookOf (x .settings) (x .list) ++ drop (512 * blocksFor (count (x .list))) l)
+    -- "Writing and reading a book give back the same values": reading the blocks that were written, into room enough
+    pub same-values :
+        WhereDone Writes
+        (λ x room w.
+        AreWords (x .settings) →
+        AllBelow (2 ^ 32) (x .list) →
+        (s : Settings) →
+        Always (Reads s)
+        (λ book l y. book ≡ take (512 * w .place) (w .lent) → length (x .list) ≤ length l → GivenBack x l s y))
+    -- "and the same bytes": writing the values that were read, into room enough
+    pub same-bytes :
+        (s : Settings) →
+        WhereDone (Reads s)
+        (λ book l y.
+        AllBelow 256 book →
+        Always Writes
+        (λ x room w.
+        x ≡ record { settings = s; list = take (5 * y .place) (y .lent) } → length book ≤ length room → WrittenBack book room w))

@@ -58,6 +58,10 @@ case1-cells = replicate 64 1 ++ replicate 5888 0
 abbrev pub sixty-four : List ℕ
 sixty-four = 1 ∷ 0 ∷ 64 ∷ 157516 ∷ []
 
+-- .. and a plan of one slot, but the second
+abbrev pub slot-two : List ℕ
+slot-two = 2 ∷ 0 ∷ 1 ∷ 32 ∷ []
+
 -- of `single`: repetition 1
 abbrev pub often : List ℕ
 often = 1 ∷ 0 ∷ 1 ∷ 16 ∷ []

@@ -2,8 +2,9 @@ pub mod Calls
 pub mod Rows
 pub mod Demand1
 pub mod Shows
-pub mod Demand2
 pub mod Tables
+pub mod Demand2
 pub mod Changes
 pub mod Demand3
+pub mod Filling
 pub mod Inputs

@@ -18,7 +18,7 @@ pub record Table (s : Settings) (list : List ℕ) (frame : ℕ → Frame) : Type
   -- collision-free: no two frames share a cell
   pub apart :
       (i j k c : ℕ) → Between 1 (count list) i → Between 1 (count list) j → c < 64 → Sends (frame i) k c → Sends (frame j) k c → i ≡ j
-  -- one unit to a slot
+  -- one unit to a slot: "The unit begins with a new slot"
   pub one-unit :
       (i j : ℕ) →
       Between 1 (count list) i →

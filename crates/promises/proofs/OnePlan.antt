@@ -1,0 +1,275 @@
+-- The sentences of "Filling the table" leave one plan only: two accepted plans of a list, both filled as they say,
+-- show the same frame of each signal, by induction along the order of filling. So the words of their results and the
+-- cells of their tables are the same.
+-- Assumes nothing.
+use mathlib.Core.Path.{_≡_, refl, _∙_, sym, ap, subst}
+use mathlib.Core.List.{List}
+use mathlib.Core.Logic.{_⊎_, inl, inr, ⊎-elim, dite}
+use mathlib.Core.WellFounded.{fix}
+use Prim.Native.Nat.{ℕ, zero, suc, _+_, _*_, _-_, _/_, _%_, _≤_, _<_}
+use native.Mathlib.Decide.{ℕ-discrete, decLe}
+use native.Mathlib.Nat.{add-zero, lt-of-not-le}
+use native.Mathlib.Omega.{arith}
+use lib.ListN.{getD}
+use lib.WfN.{Nat·lt-wfRel}
+use Rattle.terms.specs.declared.Settings.{Settings}
+use Rattle.terms.specs.declared.Frame.{Frame}
+use Rattle.terms.specs.Ranges.{Between, FrameInRange}
+use Rattle.terms.specs.RepetitionLaws.{repetition-most}
+use Rattle.age.specs.Age.{firstStart, spanOf, Age}
+use Rattle.age.specs.AgeLaws.{age-unique}
+use Rattle.planner.specs.Lists.{count, signalAt, Repetitions}
+use Rattle.planner.specs.JudgedLaws.{repetitions-same}
+use Rattle.promises.specs.Shows.{frameOf, ageOf, cellOf, Sends}
+use Rattle.promises.specs.Tables.{Table}
+use Rattle.promises.specs.Demand2.{AgeShown, TableShown}
+use Rattle.promises.specs.Demand3.{AcceptedPlan}
+use Rattle.promises.specs.Filling.{Before, FillingShown}
+
+-- ---- induction along an order
+
+-- two numbers stand in one of three ways
+compare : {A : Type 0} (m n : ℕ) → (m < n → A) → (m ≡ n → A) → (n < m → A) → A
+compare m n below equal above =
+    dite (ℕ-discrete m n) equal (λ d. dite (decLe m n) (λ l. below (omega arith)) (λ l. above (lt-of-not-le l)))
+
+-- what holds of a number whenever it holds of all that go before it, holds of every number
+abbrev Inducts : (Goes : (i j : ℕ) → Type 0) → Type 1
+Inducts Goes = (P : ℕ → Type 0) → ((i : ℕ) → ((j : ℕ) → Goes j i → P j) → P i) → (i : ℕ) → P i
+
+by-number : Inducts _<_
+by-number P step i = fix {C = P} (Nat·lt-wfRel .wf) step i
+
+-- first by f, and where that is equal by another order
+abbrev First : (f : ℕ → ℕ) (Goes : (i j : ℕ) → Type 0) → (i j : ℕ) → Type 0
+First f Goes i j = (f i < f j) ⊎ ((f i ≡ f j) × Goes i j)
+
+by-first : (f : ℕ → ℕ) (Goes : (i j : ℕ) → Type 0) → Inducts Goes → Inducts (First f Goes)
+by-first f Goes inducts P step i =
+    by-number (λ n. (i : ℕ) → f i ≡ n → P i)
+    (λ n lower.
+    inducts (λ i. f i ≡ n → P i)
+    (λ i sooner e. step i (λ j. ⊎-elim (λ l. lower (f j) (omega arith) j refl) (λ t. sooner j (t .1) (t .0 ∙ e)))))
+    (f i) i refl
+
+-- ---- one frame of each signal
+
+-- a frame goes out in the cycle of its base
+base-sent : {s : Settings} {f : Frame} → FrameInRange s f → {k : ℕ} → f .slot ≡ k → Sends f k (f .base)
+base-sent h e = (e, record { repetition = h .repetition; base = h .base; again = (0, omega arith) })
+
+module _ (s : Settings) (list : List ℕ) where
+  abbrev Own : ℕ → Type 0
+  Own = Between 1 (count list)
+
+  abbrev unit : ℕ → ℕ
+  unit i = signalAt list i .unit
+
+  -- what is used of a plan
+  record FilledPlan (frame : ℕ → Frame) : Type 0 where
+    rule : Repetitions s list (λ i. frame i .repetition)
+    table : Table s list frame
+    filling : FillingShown list frame
+
+  module _ (frame : ℕ → Frame) where
+    -- one goes before another, over all units
+    abbrev Earlier : (i j : ℕ) → Type 0
+    Earlier i j = (unit i < unit j) ⊎ Before list frame i j
+
+    -- of two frames of a unit one goes before the other
+    first-of : (i j : ℕ) → unit i ≡ unit j → (i ≡ j → ⊥) → Before list frame i j ⊎ Before list frame j i
+    first-of i j e d =
+        compare (frame i .repetition) (frame j .repetition) (λ l. inl (e, inl l))
+        (λ r. compare i j (λ l. inl (e, inr (r, l))) (λ z. absurd (d z)) (λ l. inr (sym e, inr (sym r, l))))
+        (λ l. inr (sym e, inl l))
+
+    not-itself : (i j : ℕ) → i ≡ j → Before list frame i j → ⊥
+    not-itself i j e (u, h) = ⊎-elim (λ l. omega (arith, ap (λ (n : ℕ). frame n .repetition) e)) (λ l. omega arith) h
+
+  -- two plans, in either role, that are the same as far as the frames before signal i
+  module _
+      (frame frame′ : ℕ → Frame)
+      (a : FilledPlan frame)
+      (a′ : FilledPlan frame′)
+      (i : ℕ)
+      (own : Own i)
+      (before : (j : ℕ) → Own j → Earlier frame′ j i → frame j ≡ frame′ j)
+    where
+      in-range : FrameInRange s (frame i)
+      in-range = a .table .frames i own
+
+      cycle : frame i .base < 64
+      cycle = omega (arith, in-range .base, repetition-most (frame i .repetition) (in-range .repetition))
+
+      -- a frame that goes before i in the second is not in i's cell in the first
+      not-both :
+          (j k : ℕ) → Own j → Before list frame′ j i → frame i .slot ≡ k → Sends (frame′ j) k (frame i .base) → ⊥
+      not-both j k at b e sends =
+          let also = subst (λ (f : Frame). Sends f k (frame i .base)) (sym (before j at (inr b))) sends in
+          not-itself frame′ j i (a .table .apart j i k (frame i .base) at own cycle also (base-sent in-range e)) b
+
+      -- in the second, a frame of i's unit in a lower slot goes before i: `onward`
+      lower-before : (j : ℕ) → Own j → frame′ j .slot < frame′ i .slot → unit j ≡ unit i → Before list frame′ j i
+      lower-before j at l e =
+          ⊎-elim (λ b. b) (λ b. absurd (omega (arith, a′ .filling .onward i j own at b)))
+          (first-of frame′ j i e (λ z. omega (arith, ap (λ (n : ℕ). frame′ n .slot) z)))
+
+      -- a lower slot is in use in the second: `lowest`; by a frame of i's unit: `units`; so all its cycles are taken
+      -- before i: `full`
+      no-lower-slot : frame i .slot < frame′ i .slot → ⊥
+      no-lower-slot l = used (a′ .filling .lowest i (frame i .slot) own (in-range .slot .0, omega arith))
+        where
+          taken : (j : ℕ) → Own j → frame′ j .slot ≡ frame i .slot → unit j ≡ unit i → ⊥
+          taken j at e u =
+              let (n, here, sends) =
+              a′ .filling .full j i (frame i .base) at own (lower-before j at (omega arith) u) (omega arith) cycle in
+              let of-unit = a′ .table .one-unit n j here at (sends .0) ∙ u in
+              not-both n (frame′ j .slot) here (lower-before n here (omega (arith, sends .0)) of-unit) (sym e) sends
+
+          used : (j : ℕ) × Own j × (frame′ j .slot ≡ frame i .slot) → ⊥
+          used (j, at, e) =
+              compare (unit j) (unit i)
+              (λ u. omega (arith, a .filling .units j i at own u, ap (λ (f : Frame). f .slot) (before j at (inl u))))
+              (taken j at e) (λ u. omega (arith, a′ .filling .units i j own at u))
+
+      -- a cycle below is taken before i in the second: `first-free`
+      no-lower-base : frame i .slot ≡ frame′ i .slot → frame i .base < frame′ i .base → ⊥
+      no-lower-base e l =
+          let (j, at, b, sends) = a′ .filling .first-free i (frame i .base) own l in
+          not-both j (frame′ i .slot) at b e sends
+
+  module _ (frame frame′ : ℕ → Frame) (a : FilledPlan frame) (a′ : FilledPlan frame′) where
+    same-repetition : (i : ℕ) → Own i → frame i .repetition ≡ frame′ i .repetition
+    same-repetition =
+        repetitions-same s list (λ i. frame i .repetition) (λ i. frame′ i .repetition) (a .rule) (a′ .rule)
+
+    same-order : (i j : ℕ) → Own i → Own j → Earlier frame′ i j → Earlier frame i j
+    same-order i j b c (inl l) = inl l
+    same-order i j b c (inr (u, inl l)) = inr (u, inl (omega (arith, same-repetition i b, same-repetition j c)))
+    same-order i j b c (inr (u, inr (e, l))) = inr (u, inr (same-repetition i b ∙ e ∙ sym (same-repetition j c), l))
+
+    next-same : (i : ℕ) → Own i → ((j : ℕ) → Own j → Earlier frame j i → frame j ≡ frame′ j) → frame i ≡ frame′ i
+    next-same i own before =
+        let there : (j : ℕ) → Own j → Earlier frame′ j i → frame j ≡ frame′ j =
+        λ j at h. before j at (same-order j i at own h) in
+        let back : (j : ℕ) → Own j → Earlier frame j i → frame′ j ≡ frame j = λ j at h. sym (before j at h) in
+        let slot : frame i .slot ≡ frame′ i .slot =
+        equal (no-lower-slot frame frame′ a a′ i own there) (no-lower-slot frame′ frame a′ a i own back) in
+        let base : frame i .base ≡ frame′ i .base =
+        equal (no-lower-base frame frame′ a a′ i own there slot)
+        (no-lower-base frame′ frame a′ a i own back (sym slot)) in
+        let repetition = same-repetition i own in
+        λ k. record { slot = slot k; base = base k; repetition = repetition k }
+      where
+        equal : {m n : ℕ} → (m < n → ⊥) → (n < m → ⊥) → m ≡ n
+        equal {m} {n} p q = compare m n (λ l. absurd (p l)) (λ e. e) (λ l. absurd (q l))
+
+    -- the order of filling: by unit, by repetition, by place in the list
+    all-same : (i : ℕ) → Own i → frame i ≡ frame′ i
+    all-same =
+        let R : ℕ → ℕ = λ i. frame i .repetition in
+        by-first unit (First R _<_) (by-first R _<_ by-number) (λ i. Own i → frame i ≡ frame′ i)
+        (λ i sooner own. next-same i own (λ j at h. sooner j h at))
+
+pub one-filling :
+    (s : Settings) (list : List ℕ) (p q : ℕ) (frame frame′ : ℕ → Frame) (age age′ : ℕ → ℕ) →
+    AcceptedPlan s list p frame age →
+    AcceptedPlan s list q frame′ age′ →
+    FillingShown list frame →
+    FillingShown list frame′ →
+    (i : ℕ) →
+    Between 1 (count list) i →
+    frame i ≡ frame′ i
+one-filling s list p q frame frame′ age age′ a a′ f f′ =
+    all-same s list frame frame′ (record { rule = a .rule; table = a .table; filling = f })
+    (record { rule = a′ .rule; table = a′ .table; filling = f′ })
+
+-- ---- one row of words
+
+-- what the words of an accepted plan show
+pub record PlanShown (s : Settings) (list : List ℕ) (place : ℕ) (word : ℕ → ℕ) : Type 0 where
+  pub accepted : AcceptedPlan s list place (frameOf word) (ageOf word)
+  pub filling : FillingShown list (frameOf word)
+  pub ages : (i : ℕ) → Between 1 (count list) i → AgeShown s (signalAt list i) (frameOf word i) (ageOf word i)
+
+module _
+    {s : Settings}
+    {list : List ℕ}
+    {p p′ : ℕ}
+    {word word′ : ℕ → ℕ}
+    (a : PlanShown s list p word)
+    (a′ : PlanShown s list p′ word′)
+  where
+    -- each uses the fewest slots of any
+    pub one-place : p ≡ p′
+    one-place =
+        let here = a .accepted in
+        let there = a′ .accepted in
+        let least = here .fewest (frameOf word′) (there .table) in
+        let least′ = there .fewest (frameOf word) (here .table) in
+        omega (arith, here .used, there .used, least, least′)
+
+    pub one-frame : (i : ℕ) → Between 1 (count list) i → frameOf word i ≡ frameOf word′ i
+    one-frame = one-filling s list p p′ _ _ _ _ (a .accepted) (a′ .accepted) (a .filling) (a′ .filling)
+
+    one-age : (i : ℕ) → Between 1 (count list) i → ageOf word i ≡ ageOf word′ i
+    one-age i b =
+        let f = frameOf word′ i in
+        let x = signalAt list i in
+        age-unique (firstStart s f) (spanOf s f) (s .packing) (s .slot) (x .offset) (x .period) _ _
+        (subst (λ (g : Frame). Age s x g (ageOf word i)) (one-frame i b) (a .ages i b .is-age)) (a′ .ages i b .is-age)
+
+    -- word r of the four of signal i
+    of-four : (i r : ℕ) → Between 1 (count list) i → r < 4 → word (4 * (i - 1) + r) ≡ word′ (4 * (i - 1) + r)
+    of-four i zero b l = rw add-zero (ap (λ (f : Frame). f .slot) (one-frame i b))
+    of-four i (suc zero) b l = ap (λ (f : Frame). f .base) (one-frame i b)
+    of-four i (suc (suc zero)) b l = ap (λ (f : Frame). f .repetition) (one-frame i b)
+    of-four i (suc (suc (suc zero))) b l = one-age i b
+    of-four i (suc (suc (suc (suc r)))) b l = absurd (omega arith)
+
+    pub one-words : (j : ℕ) → j < 4 * count list → word j ≡ word′ j
+    one-words j l =
+        let at : 4 * (1 + j / 4 - 1) + j % 4 ≡ j = omega arith in
+        subst (λ (n : ℕ). word n ≡ word′ n) at (of-four (1 + j / 4) (j % 4) (omega arith) (omega arith))
+
+-- ---- one table of cells
+
+module _
+    (s : Settings)
+    (m : ℕ)
+    {frame frame′ : ℕ → Frame}
+    {cells cells′ : List ℕ}
+    (same : (i : ℕ) → Between 1 m i → frame i ≡ frame′ i)
+    (t : TableShown s m frame cells)
+    (t′ : TableShown s m frame′ cells′)
+  where
+    module _ (k c : ℕ) (b : Between 1 (s .slots) k) (l : c < 64) where
+      abbrev At : Frame → Type 0
+      At f = Sends f k c
+
+      abbrev cell : ℕ
+      cell = cellOf cells k c
+
+      -- a number past the signals stands nowhere: the cell would be empty
+      cell-most : cell ≤ m
+      cell-most =
+          dite (decLe cell m) (λ h. h)
+          (λ h.
+          let none = t .empty k c b l .1 (λ i at sends. h (omega (arith, t .shown k c i b l at .1 sends, at))) in
+          omega arith)
+
+      one-cell : cell ≡ cellOf cells′ k c
+      one-cell =
+          dite (ℕ-discrete cell 0)
+          (λ z.
+          let none = t .empty k c b l .0 z in
+          z ∙ sym (t′ .empty k c b l .1 (λ i at sends. none i at (subst At (sym (same i at)) sends))))
+          (λ n.
+          let at : Between 1 m cell = (omega (arith, n), cell-most) in
+          sym (t′ .shown k c cell b l at .1 (subst At (same cell at) (t .shown k c cell b l at .0 refl))))
+
+    pub one-table : (j : ℕ) → j < 64 * s .slots → getD cells j 0 ≡ getD cells′ j 0
+    one-table j l =
+        let at : 64 * (1 + j / 64 - 1) + j % 64 ≡ j = omega arith in
+        subst (λ (n : ℕ). getD cells n 0 ≡ getD cells′ n 0) at
+        (one-cell (1 + j / 64) (j % 64) (omega arith) (omega arith))

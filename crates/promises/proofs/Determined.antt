@@ -21,11 +21,12 @@ use Rattle.book.specs.Reading.{settingsIn, listIn}
 use Rattle.book.proofs.WordLaws.{byte-of-word}
 use Rattle.promises.specs.Calls.{Request, PlanRoom, Return, Routine, WhereDone}
 use Rattle.promises.specs.Rows.{Row, FirstRow, Needed, signalRows, bytesRows}
-use Rattle.promises.specs.Demand1.{Demand1, Demand1Planning, Demand1Reading, Demand1Writing, Demand1Editor}
+use Rattle.promises.specs.Demand1.{Demand1}
 use Rattle.promises.specs.Shows.{Planning, overWords, fromBook}
-use Rattle.promises.specs.Demand2.{Behind, Ages, Demand2Planning, Demand2Editor, Demand2Books}
+use Rattle.promises.specs.Demand2.{Behind, Ages, Demand2Books}
 use Rattle.promises.specs.Demand3.{Demand3}
 use Rattle.promises.specs.Filling.{ShowsFilling}
+use Rattle.promises.specs.Promised.{PlanningKeeps, EditorKeeps, BooksKeep}
 use Rattle.promises.proofs.OnePlan.{PlanShown, one-place, one-frame, one-words, one-table}
 
 -- ---- one number and one place
@@ -115,19 +116,6 @@ same-bytes a b m h k words j l =
 
 -- ---- planning
 
--- what a routine keeps over words, and what it keeps of books
-pub record PlanningKeeps (Gives : Routine Request PlanRoom) : Type 1 where
-  pub one : Demand1Planning Gives
-  pub two : Demand2Planning Gives
-  pub three : Demand3 overWords Gives
-  pub filling : ShowsFilling overWords Gives
-
-pub record EditorKeeps (Gives : Routine (List ℕ) (List ℕ)) : Type 1 where
-  pub one : Demand1Editor Gives
-  pub two : Demand2Editor Gives
-  pub three : Demand3 fromBook Gives
-  pub filling : ShowsFilling fromBook Gives
-
 -- in either way to plan, where the number is 0
 abbrev ShowsPlans : {Asked Room : Type 0} → Planning Asked Room → Routine Asked Room → Type 0
 ShowsPlans p G = WhereDone G (λ x l y. PlanShown (p .settings x) (p .list x) (y .place) (p .word (y .lent)))
@@ -214,16 +202,6 @@ editor-as-words G H keeps keeps′ book l y g z room w h z′ =
     (one-place a a′, one-words a a′)
 
 -- ---- books
-
-pub record BooksKeep
-    (With : ℕ → Type 0)
-    (Reads : Settings → Routine (List ℕ) (List ℕ))
-    (Writes : Routine Request (List ℕ))
-    : Type 1
-  where
-    pub reading : Demand1Reading Reads
-    pub writing : Demand1Writing Writes
-    pub books : Demand2Books With Reads Writes
 
 -- settings are numbers, so it is enough that they are not different: nobody need decide `With`
 same-settings : (s s′ : Settings) → ((s ≡ s′ → ⊥) → ⊥) → s ≡ s′

@@ -161,8 +161,9 @@ sends-yes = (refl, names-yes)
 pub sends-no : Sends (record { slot = 7; repetition = 4; base = 1 }) 8 61 → ⊥
 sends-no s = omega (arith, s .0)
 
-pub below-yes : AllBelow 256 []
-below-yes i = lit≤ tt
+pub below-yes : AllBelow 256 (255 ∷ [])
+below-yes zero = lit≤ tt
+below-yes (suc i) = lit≤ tt
 
 pub below-no : AllBelow 256 (256 ∷ []) → ⊥
 below-no h = omega (arith, h 0)

@@ -22,6 +22,7 @@ pub mod Demand3
 pub mod Consequences
 pub mod OnePlan
 pub mod Determined
+pub mod Promised
 pub mod Named
 pub mod Shams
 pub mod Examples

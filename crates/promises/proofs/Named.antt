@@ -3,7 +3,7 @@
 use mathlib.Core.Path.{_≡_, refl, ap, subst}
 use mathlib.Core.Bool.{true}
 use mathlib.Core.List.{List, [], _∷_}
-use Prim.Native.Nat.{ℕ, zero, suc, _/_, _%_, _^_, _≤_, _<_}
+use Prim.Native.Nat.{ℕ, zero, suc, _*_, _/_, _%_, _^_, _≤_, _<_}
 use native.Mathlib.Omega.{arith}
 use lib.Dec.{lit≤}
 use lib.ListN.{length}
@@ -17,10 +17,10 @@ use Rattle.rule.specs.Rule.{Keeps, segment, Largest}
 use Rattle.rule.specs.RuleTests.{gets-test, keeps-at, keeps-flag, divisor}
 use Rattle.planner.specs.Lists.{signalAt}
 use Rattle.book.specs.Words.{AllBelow}
-use Rattle.book.specs.Blocks.{AreWords, bookOf}
+use Rattle.book.specs.Blocks.{AreWords, blocksFor, bookOf}
 use Rattle.book.specs.Reading.{sound, signalsOf, settingsIn, listIn}
 use Rattle.book.proofs.SoundLaws.{facts-sound}
-use Rattle.book.proofs.WrittenLaws.{written-sound, written-count, written-back, written-list}
+use Rattle.book.proofs.WrittenLaws.{written-length, written-sound, written-count, written-back, written-list}
 use Rattle.promises.specs.Calls.{PlanRoom}
 use Rattle.promises.specs.Shows.{overWords}
 use Rattle.promises.specs.Tables.{Table}
@@ -116,6 +116,7 @@ pub record BookHolds (list : List ℕ) : Type 0 where
   pub settings-in : settingsIn (bookOf settings list) ≡ settings
   pub list-in : listIn (bookOf settings list) ≡ list
   pub signals : signalsOf (bookOf settings list) ≡ length list / 5
+  pub bytes : length (bookOf settings list) ≡ 512 * blocksFor (length list / 5)
 
 book-holds : (list : List ℕ) → AllBelow (2 ^ 32) list → length list % 5 ≡ 0 → length list / 5 ≤ 600 → BookHolds list
 book-holds list words even few =
@@ -124,6 +125,7 @@ book-holds list words even few =
       settings-in = written-back settings list settings-words words even few;
       list-in = written-list settings list settings-words words even few;
       signals = written-count settings list settings-words words even few;
+      bytes = written-length settings list settings-words words even few;
     }
 
 pub case1-holds : BookHolds case1

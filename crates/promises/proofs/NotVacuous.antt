@@ -3,13 +3,13 @@
 -- Assumes nothing.
 use mathlib.Core.Path.{_≡_, refl, _∙_, sym, ap, subst}
 use mathlib.Core.Bool.{true, true≢false}
-use mathlib.Core.List.{List, [], _∷_}
+use mathlib.Core.List.{List, [], _∷_, _++_}
 use mathlib.Core.Logic.{inl, inr, _↔_, dite}
 use Prim.Native.Nat.{ℕ, _+_, _*_, _-_, _≤_, _<_, zero-le}
 use native.Mathlib.Decide.{ℕ-discrete}
 use native.Mathlib.Omega.{arith}
 use lib.Dec.{lit≤}
-use lib.ListN.{length, getD, replicate, getD-replicate, length-replicate, List·getD-append}
+use lib.ListN.{length, getD, drop, replicate, getD-replicate, length-replicate, List·getD-append}
 use lib.Seq.{getD-append-add}
 use Rattle.laws.specs.DivisorLaws.{euclid}
 use Rattle.terms.specs.declared.Frame.{Frame}
@@ -24,11 +24,11 @@ use Rattle.book.specs.Reading.{sound, judged, lengthRight}
 use Rattle.promises.specs.Calls.{Request, PlanRoom, Return, Routine}
 use Rattle.promises.specs.Shows.{frameOf, ageOf, cellOf, Sends, overWords}
 use Rattle.promises.specs.Demand1.{Demand1Planning}
-use Rattle.promises.specs.Demand2.{AgeShown, TableShown, Demand2Planning, GivenBack}
+use Rattle.promises.specs.Demand2.{AgeShown, TableShown, Demand2Planning, GivenBack, WrittenBack}
 use Rattle.promises.specs.Tables.{Table, slotsUsed}
 use Rattle.promises.specs.Demand3.{AcceptedPlan, Ready, Demand3}
 use Rattle.promises.specs.Filling.{Before, InUse, FillingShown}
-use Rattle.promises.specs.Rows.{Needed, planningRows}
+use Rattle.promises.specs.Rows.{FirstRow, Hold, Needed, planningRows, bookRows, writingRows}
 use Rattle.promises.specs.Inputs.{settings, asked, fresh, case1, case3, twice, blank, case1-results, case1-cells, sixty-four, slot-two, case1-book}
 use Rattle.promises.proofs.Named.{Gets, fresh-gets, fresh-keeps, fresh-valid, one, at-one, slot1, case1-table, case1-ready, case3-ready, case1-holds}
 use Rattle.promises.proofs.Clock.{starts-named, starts-shown}
@@ -36,6 +36,7 @@ use Rattle.promises.proofs.Consequences.{each-number}
 use Rattle.promises.proofs.Examples.{kept-no}
 use Rattle.promises.proofs.Fewest.{needed-least}
 use Rattle.promises.proofs.Releasing.{releases}
+use Rattle.promises.proofs.RowLaws.{sound-rows, rows-sound}
 use Rattle.promises.proofs.Shams.{refuses-all}
 
 -- ---- tables
@@ -260,3 +261,27 @@ given-back-yes = record { accepted = refl; signals = refl; settings = refl; word
 pub given-back-no :
     GivenBack (asked case1) (7 ∷ 7 ∷ 7 ∷ 7 ∷ 7 ∷ 7 ∷ []) settings (record { number = 0; place = 1; lent = 1 ∷ 2500 ∷ 0 ∷ 16 ∷ 2500 ∷ 0 ∷ [] }) → ⊥
 given-back-no h = omega (arith, ap (λ (l : List ℕ). getD l 5 0) (h .words))
+
+-- the book given back, and a writer that refuses
+pub written-back-yes : (l : List ℕ) → WrittenBack case1-book l (record { number = 0; place = 2; lent = case1-book ++ drop (length case1-book) l })
+written-back-yes l = record { accepted = refl; blocks = sym (case1-holds .bytes); bytes = refl }
+
+pub written-back-no : (lent : List ℕ) → WrittenBack case1-book [] (record { number = 4; place = 2; lent = lent }) → ⊥
+written-back-no lent h = omega (arith, h .accepted)
+
+-- ---- rows
+
+pub hold-yes : Hold (bookRows case1-book)
+hold-yes = sound-rows case1-book (case1-holds .whole)
+
+pub hold-no : Hold (bookRows []) → ⊥
+hold-no h = sound-no (rows-sound [] h)
+
+-- case 1 written into no room: 10, and 1,024 bytes needed
+pub first-row-yes : FirstRow (writingRows (asked case1) []) (λ p. p ≡ 2) 10 1024
+first-row-yes = inr (record { whole = refl; few = lit≤ tt }, inl ((λ h. omega (arith, h)), refl, refl))
+
+pub first-row-no : FirstRow (writingRows (asked case1) []) (λ p. p ≡ 2) 4 0 → ⊥
+first-row-no (inl (f, e, p)) = f (record { whole = refl; few = lit≤ tt })
+first-row-no (inr (k, inl (f, e, p))) = omega (arith, e)
+first-row-no (inr (k, inr (r, q))) = omega (arith, q .0)

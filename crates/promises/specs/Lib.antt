@@ -7,4 +7,5 @@ pub mod Demand2
 pub mod Changes
 pub mod Demand3
 pub mod Filling
+pub mod Promised
 pub mod Inputs

@@ -15,7 +15,7 @@ use Rattle.terms.specs.Ranges.{Between, SignalInRange, Valid, Repetition}
 use Rattle.age.specs.RangeTests.{valid-test}
 use Rattle.rule.specs.Rule.{Keeps, segment, Largest}
 use Rattle.rule.specs.RuleTests.{gets-test, keeps-at, keeps-flag, divisor}
-use Rattle.planner.specs.Lists.{signalAt}
+use Rattle.planner.specs.Lists.{CountInRange, count, signalAt, EachSignal}
 use Rattle.book.specs.Words.{AllBelow}
 use Rattle.book.specs.Blocks.{AreWords, blocksFor, bookOf}
 use Rattle.book.specs.Reading.{sound, signalsOf, settingsIn, listIn}
@@ -78,24 +78,18 @@ case1-table =
     }
 
 -- valid settings, a valid list and room
-module _ (l : PlanRoom) (cells : 5952 ≤ length (l .cells)) (results : 4 ≤ length (l .results)) where
-  pub case1-ready : Ready overWords (asked case1) l
-  case1-ready =
-      record {
-        settings = fresh-valid .settings;
-        whole = record { whole = refl; few = lit≤ tt };
-        signals = at-one (λ i. SignalInRange settings (signalAt case1 i)) (fresh-valid .signal);
-        enough = (cells, results);
-      }
+module _ (l : PlanRoom) (cells : 5952 ≤ length (l .cells)) where
+  pub ready : (list : List ℕ) → CountInRange list → EachSignal list (SignalInRange settings) → 4 * count list ≤ length (l .results)
+      → Ready overWords (asked list) l
+  ready list whole signals results = record { settings = fresh-valid .settings; whole = whole; signals = signals; enough = (cells, results) }
 
-  pub case3-ready : Ready overWords (asked case3) l
+  pub case1-ready : 4 ≤ length (l .results) → Ready overWords (asked case1) l
+  case1-ready =
+      ready case1 (record { whole = refl; few = lit≤ tt }) (at-one (λ i. SignalInRange settings (signalAt case1 i)) (fresh-valid .signal))
+
+  pub case3-ready : 4 ≤ length (l .results) → Ready overWords (asked case3) l
   case3-ready =
-      record {
-        settings = stale-valid .settings;
-        whole = record { whole = refl; few = lit≤ tt };
-        signals = at-one (λ i. SignalInRange settings (signalAt case3 i)) (stale-valid .signal);
-        enough = (cells, results);
-      }
+      ready case3 (record { whole = refl; few = lit≤ tt }) (at-one (λ i. SignalInRange settings (signalAt case3 i)) (stale-valid .signal))
 
 -- ---- the books of case 1 and of `pair`
 

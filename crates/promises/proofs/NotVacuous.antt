@@ -30,7 +30,7 @@ use Rattle.promises.specs.Demand3.{AcceptedPlan, Ready, Demand3}
 use Rattle.promises.specs.Filling.{Before, InUse, FillingShown}
 use Rattle.promises.specs.Rows.{FirstRow, Hold, Needed, planningRows, bookRows, writingRows}
 use Rattle.promises.specs.Inputs.{settings, asked, fresh, case1, case3, twice, blank, case1-results, case1-cells, sixty-four, slot-two, case1-book}
-use Rattle.promises.proofs.Named.{Gets, fresh-gets, fresh-keeps, fresh-valid, one, at-one, slot1, case1-table, case1-ready, case3-ready, case1-holds}
+use Rattle.promises.proofs.Named.{Gets, fresh-gets, fresh-keeps, one, at-one, slot1, case1-table, ready, case1-ready, case3-ready, case1-holds}
 use Rattle.promises.proofs.Clock.{starts-named, starts-shown}
 use Rattle.promises.proofs.Consequences.{each-number}
 use Rattle.promises.proofs.Examples.{kept-no}
@@ -226,13 +226,7 @@ module _ (Gives : Routine Request PlanRoom) (l : PlanRoom) (y : Return PlanRoom)
       → (y .number ≡ 0) × ((k c : ℕ) → Between 1 93 k → c < 64 → cellOf (y .lent .cells) k c ≡ 0)
   case12-done three two g =
       let none : (i : ℕ) → Between 1 0 i → ⊥ = λ i b. omega (arith, b .0, b .1) in
-      let ready : Ready overWords (asked []) l =
-      record {
-        settings = fresh-valid .settings;
-        whole = record { whole = refl; few = lit≤ tt };
-        signals = λ i b. absurd (none i b);
-        enough = (cells, zero-le);
-      } in
+      let room = ready l cells [] (record { whole = refl; few = lit≤ tt }) (λ i b. absurd (none i b)) zero-le in
       let table : Table settings [] (λ i. slot1) =
       record {
         frames = λ i b. absurd (none i b);
@@ -242,7 +236,7 @@ module _ (Gives : Routine Request PlanRoom) (l : PlanRoom) (y : Return PlanRoom)
       } in
       let number : y .number ≡ 0 =
       dite (ℕ-discrete (y .number) 0) (λ e. e)
-      (λ n. absurd (three .refused-exactly (asked []) l y g ready .0 n (λ i. slot1) table)) in
+      (λ n. absurd (three .refused-exactly (asked []) l y g room .0 n (λ i. slot1) table)) in
       (number, λ k c b h. two .table (asked []) l y g number .empty k c b h .1 (λ i at. absurd (none i at)))
 
 -- ---- books

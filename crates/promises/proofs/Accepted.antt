@@ -38,14 +38,16 @@ pub record Fillable (s : Settings) (list : List ℕ) (R : ℕ → ℕ) : Type 0 
 -- the words show the frame of each place, and its age
 pub record ShowsFilled (s : Settings) (list : List ℕ) (R : ℕ → ℕ) (word : ℕ → ℕ) : Type 0 where
   pub frame : (p : Place) → List·Memᴰ p (filled list R) → frameOf word (p .signal) ≡ frameAt R p
-  pub age : (p : Place) → List·Memᴰ p (filled list R) → Age s (signalAt list (p .signal)) (frameAt R p) (ageOf word (p .signal))
+  pub age : (p : Place) → List·Memᴰ p (filled list R)
+      → Age s (signalAt list (p .signal)) (frameAt R p) (ageOf word (p .signal))
 
 module _ (s : Settings) (list : List ℕ) (R : ℕ → ℕ) (h : Fillable s list R) where
   pub seven : (i : ℕ) → Between 1 (count list) i → Repetition (R i)
   seven = kept-seven s list R (h .kept) (h .found)
 
   -- what holds of each place's signal holds of each signal
-  pub each-place : (Q : ℕ → Type 0) → ((p : Place) → List·Memᴰ p (filled list R) → Q (p .signal)) → (i : ℕ) → Between 1 (count list) i → Q i
+  pub each-place : (Q : ℕ → Type 0) → ((p : Place) → List·Memᴰ p (filled list R) → Q (p .signal)) → (i : ℕ)
+      → Between 1 (count list) i → Q i
   each-place Q q i b = let r = filled-place list R i b (h .signals i b .unit .1) in subst Q (r .2) (q (r .0) (r .1))
 
   pub framed : (p : Place) → List·Memᴰ p (filled list R) → FrameInRange s (frameAt R p)
@@ -56,7 +58,8 @@ module _ (s : Settings) (list : List ℕ) (R : ℕ → ℕ) (h : Fillable s list
     frame i = frameOf word i
 
     -- what holds of the frame of each place holds of the frame shown of each signal
-    pub each-frame : (Q : ℕ → Frame → Type 0) → ((p : Place) → List·Memᴰ p (filled list R) → Q (p .signal) (frameAt R p))
+    pub each-frame : (Q : ℕ → Frame → Type 0)
+        → ((p : Place) → List·Memᴰ p (filled list R) → Q (p .signal) (frameAt R p))
         → (i : ℕ) → Between 1 (count list) i → Q i (frame i)
     each-frame Q q = each-place (λ i. Q i (frame i)) (λ p m. subst (Q (p .signal)) (sym (shown .frame p m)) (q p m))
 
@@ -64,7 +67,8 @@ module _ (s : Settings) (list : List ℕ) (R : ℕ → ℕ) (h : Fillable s list
         → ((p q : Place) → List·Memᴰ p (filled list R) → List·Memᴰ q (filled list R) → Q (p .signal) (q .signal) (frameAt R p) (frameAt R q))
         → (i j : ℕ) → Between 1 (count list) i → Between 1 (count list) j → Q i j (frame i) (frame j)
     two-frames Q q i j a b =
-        each-frame (λ i f. Q i j f (frame j)) (λ p m. each-frame (λ j g. Q (p .signal) j (frameAt R p) g) (λ r n. q p r m n) j b) i a
+        each-frame (λ i f. Q i j f (frame j))
+        (λ p m. each-frame (λ j g. Q (p .signal) j (frameAt R p) g) (λ r n. q p r m n) j b) i a
 
     pub frames-shown : (i : ℕ) → Between 1 (count list) i → FrameInRange s (frame i)
     frames-shown = each-frame (λ i f. FrameInRange s f) framed
@@ -92,7 +96,8 @@ module _ (s : Settings) (list : List ℕ) (R : ℕ → ℕ) (h : Fillable s list
               two-frames (λ i j f g. Sends f k c → Sends g k c → i ≡ j)
               (λ p q m n x y. ap (λ (t : Place). t .signal) (same-place list R seven p q m n k c l (x .0) (y .0) (x .1) (y .1))) i j a b;
           one-unit =
-              two-frames (λ i j f g. f .slot ≡ g .slot → signalAt list i .unit ≡ signalAt list j .unit) (one-unit list R seven 256 0 0);
+              two-frames (λ i j f g. f .slot ≡ g .slot → signalAt list i .unit ≡ signalAt list j .unit)
+              (one-unit list R seven 256 0 0);
         }
 
     -- ---- the slots used
@@ -111,7 +116,8 @@ module _ (s : Settings) (list : List ℕ) (R : ℕ → ℕ) (h : Fillable s list
         let rest = s .slots - n in
         let f : ℕ → ℕ = λ k. taken (count list) frame (1 + k) in
         let split = sum-split f n rest in
-        let most = sum-le f (λ k. 1) n (λ k l. min-le-left 1 (sum (λ i. same (frame (1 + i) .slot) (1 + k)) (count list))) in
+        let most = sum-le f (λ k. 1) n
+        (λ k l. min-le-left 1 (sum (λ i. same (frame (1 + i) .slot) (1 + k)) (count list))) in
         let none = sum-zero (λ k. f (n + k)) rest (λ k l. none-past (n + k) (omega arith)) in
         let whole = ap (sum f) (add-sub-of-le (h .fits)) in
         let least = needed-least s list R frame (h .found) table in
@@ -124,7 +130,8 @@ module _ (s : Settings) (list : List ℕ) (R : ℕ → ℕ) (h : Fillable s list
           table = table;
           bounds = λ i b.
               let f = frames-shown i b in
-              table .keeps i b (frame i .slot) (frame i .base) (ageOf word i) (among 1 (s .slots) (frame i .slot) (f .slot .0) (omega (arith, f .slot)))
+              table .keeps i b (frame i .slot) (frame i .base) (ageOf word i)
+              (among 1 (s .slots) (frame i .slot) (f .slot .0) (omega (arith, f .slot)))
               (f .base) (ages-shown i b .is-age);
           used = used-exactly;
           fewest = λ other t. needed-least s list R other (h .found) t;

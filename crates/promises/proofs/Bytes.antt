@@ -33,7 +33,8 @@ use Rattle.promises.proofs.Accepted.{Fillable, ShowsFilled, seven, fram
 use Rattle.promises.proofs.Placing.{frameAt}
 
 -- a word in front of other bytes
-pub word-in-front : (f : ℕ → ℕ) (n : ℕ) (rest : List ℕ) (p : ℕ) → p < n → wordAt (bytesOf f n ++ rest) p ≡ wordAt (bytesOf f n) p
+pub word-in-front : (f : ℕ → ℕ) (n : ℕ) (rest : List ℕ) (p : ℕ) → p < n
+    → wordAt (bytesOf f n ++ rest) p ≡ wordAt (bytesOf f n) p
 unfolding wordAt
 word-in-front f n rest p h =
     let at : (j : ℕ) → j < 4 * n → getD (bytesOf f n ++ rest) j 0 ≡ getD (bytesOf f n) j 0 =
@@ -60,7 +61,9 @@ module _
     bytes = bytesAfter front results
 
     long : length front ≡ 4 * count list
-    long = simp length-take (omega (arith, all-there s list (h .settings) (h .signals) (h .kept) R (h .found) blank words shown))
+    long =
+        simp length-take
+        (omega (arith, all-there s list (h .settings) (h .signals) (h .kept) R (h .found) blank words shown))
 
     bytes-are : bytes ≡ bytesOf (λ p. getD front p 0) (length front) ++ drop (4 * length front) results
     bytes-are = bytes-after-all front results (omega (arith, long))
@@ -79,9 +82,11 @@ module _
         let f = frameAt R p in
         let x = signalAt list (p .signal) in
         let own = h .signals (p .signal) (filled-own list R (seven s list R h) p m) in
-        let b = frame-bounded s x f (record { valid = record { settings = h .settings; signal = own }; frame = framed s list R h p m }) in
+        let b = frame-bounded s x f
+        (record { valid = record { settings = h .settings; signal = own }; frame = framed s list R h p m }) in
         let age = shown .age p m in
-        let wait = wait-below (firstStart s f) (spanOf s f) (s .packing) (b .first-below) (age .release) (age .reached .sent) (age .reached .carries) in
+        let wait = wait-below (firstStart s f) (spanOf s f) (s .packing) (b .first-below) (age .release)
+        (age .reached .sent) (age .reached .carries) in
         omega (arith, wait, age .reached .age, b .span-most, b .packing-most, b .slot-most)
 
     frame-shown : (p : Place) → List·Memᴰ p (filled list R) → frameOf (wordAt bytes) (p .signal) ≡ frameAt R p
@@ -91,9 +96,12 @@ module _
         let f = framed s list R h p m in
         let most = repetition-most (R (p .signal)) (f .repetition) in
         let slots = h .settings .1 .1 .0 .0 in
-        let slot = word-shown at (omega (arith, own)) (omega (arith, shown .slot p m, f .slot, slots)) ∙ shown .slot p m in
-        let base = word-shown (at + 1) (omega (arith, own)) (omega (arith, shown .base p m, f .base, most)) ∙ shown .base p m in
-        let repetition = word-shown (at + 2) (omega (arith, own)) (omega (arith, shown .repetition p m, most)) ∙ shown .repetition p m in
+        let slot = word-shown at (omega (arith, own))
+        (omega (arith, shown .slot p m, f .slot, slots)) ∙ shown .slot p m in
+        let base = word-shown (at + 1) (omega (arith, own))
+        (omega (arith, shown .base p m, f .base, most)) ∙ shown .base p m in
+        let repetition = word-shown (at + 2) (omega (arith, own))
+        (omega (arith, shown .repetition p m, most)) ∙ shown .repetition p m in
         λ i. record { slot = slot i; base = base i; repetition = repetition i }
 
     pub bytes-show : ShowsFilled s list R (wordAt bytes)
@@ -102,7 +110,8 @@ module _
           frame = frame-shown;
           age = λ p m.
               let own = filled-own list R (seven s list R h) p m in
-              subst (Age s (signalAt list (p .signal)) (frameAt R p)) (sym (word-shown (4 * (p .signal - 1) + 3) (omega (arith, own)) (age-small p m)))
+              subst (Age s (signalAt list (p .signal)) (frameAt R p))
+              (sym (word-shown (4 * (p .signal - 1) + 3) (omega (arith, own)) (age-small p m)))
               (shown .age p m);
         }
 
@@ -150,16 +159,20 @@ after-below : (words bytes : List ℕ) → AllBelow 256 bytes → AllBelow 256 (
 unfolding bytesAfter
 after-below words bytes h = either (leb (4 * length words) (length bytes))
   where
-    either : (t : Bool) → AllBelow 256 (cond t (bytesOf (λ p. getD words p 0) (length words) ++ drop (4 * length words) bytes) bytes)
+    either : (t : Bool)
+        → AllBelow 256 (cond t (bytesOf (λ p. getD words p 0) (length words) ++ drop (4 * length words) bytes) bytes)
     either true =
         append-below 256 (bytesOf (λ p. getD words p 0) (length words)) (drop (4 * length words) bytes)
         (bytes-below (λ p. getD words p 0) (length words)) (drop-below 256 (4 * length words) bytes h)
     either false = h
 
-bytes-planned-below : (s : Settings) (list l : List ℕ) (a : Answer) (exit : List ℕ) → BytesPlanned s list l a exit → AllBelow 256 l → AllBelow 256 exit
+bytes-planned-below : (s : Settings) (list l : List ℕ) (a : Answer) (exit : List ℕ) → BytesPlanned s list l a exit
+    → AllBelow 256 l → AllBelow 256 exit
 bytes-planned-below s list l a exit (refused r) h = h
-bytes-planned-below s list l a exit (done {blank} {words} R p found shown) h = after-below (take (4 * count list) words) l h
+bytes-planned-below s list l a exit (done {blank} {words} R p found shown) h =
+    after-below (take (4 * count list) words) l h
 
-pub book-bytes : (book l : List ℕ) (a : Answer) (exit : List ℕ) → BookPlanned book l a exit → AllBelow 256 l → AllBelow 256 exit
+pub book-bytes : (book l : List ℕ) (a : Answer) (exit : List ℕ) → BookPlanned book l a exit → AllBelow 256 l
+    → AllBelow 256 exit
 book-bytes book l a exit (unread h) b = b
 book-bytes book l a exit (planned h p) b = bytes-planned-below _ _ l a exit p b

@@ -38,16 +38,20 @@ use Rattle.promises.proofs.RowLaws.{signal-row, pass, sound-rows, unsou
 -- ---- planning
 
 module _ (x : Request) (l : PlanRoom) where
-  refusal-row : (a : Answer) → Refused (questions (x .settings) (x .list) (length (l .cells)) (length (l .results)) (needed (x .list))) a
+  refusal-row : (a : Answer)
+      → Refused (questions (x .settings) (x .list) (length (l .cells)) (length (l .results)) (needed (x .list))) a
       → FirstRow (planningRows x l) (Needed (x .settings) (x .list)) (numberOf a) (placeOf a)
-  refusal-row a (inl (f, (w, k, e))) = inl (f, ap numberOf e, subst (LowestOutOfRange (x .settings)) (sym (ap placeOf e)) k)
+  refusal-row a (inl (f, (w, k, e))) =
+      inl (f, ap numberOf e, subst (LowestOutOfRange (x .settings)) (sym (ap placeOf e)) k)
   refusal-row a (inr (h, inl (f, e))) = inr (h, inl (f, ap numberOf e, ap placeOf e))
   refusal-row a (inr (h, inr (k, inl (f, e)))) = inr (h, inr (k, inl (f, ap numberOf e, ap placeOf e)))
-  refusal-row a (inr (h, inr (k, inr (c, inl (f, e))))) = inr (h, inr (k, inr (c, inl (f, ap numberOf e, ap placeOf e))))
+  refusal-row a (inr (h, inr (k, inr (c, inl (f, e))))) =
+      inr (h, inr (k, inr (c, inl (f, ap numberOf e, ap placeOf e))))
   refusal-row a (inr (h, inr (k, inr (c, inr (r, rest))))) =
       inr (h, inr (k, inr (c, inr (r, signal-row (x .settings) (x .list) (Needed (x .settings) (x .list)) a rest))))
 
-  planned-row : (a : Answer) (cells results : List ℕ) → Planned (x .settings) (x .list) (l .cells) (l .results) a cells results
+  planned-row : (a : Answer) (cells results : List ℕ)
+      → Planned (x .settings) (x .list) (l .cells) (l .results) a cells results
       → FirstRow (planningRows x l) (Needed (x .settings) (x .list)) (numberOf a) (placeOf a)
   planned-row a cells results (refused r) = refusal-row a r
   planned-row a cells results (done R p plan) =
@@ -66,7 +70,8 @@ module _ (x : Request) (l : PlanRoom) where
         ),
       )
 
-  planned-kept : (a : Answer) (cells results : List ℕ) → Planned (x .settings) (x .list) (l .cells) (l .results) a cells results
+  planned-kept : (a : Answer) (cells results : List ℕ)
+      → Planned (x .settings) (x .list) (l .cells) (l .results) a cells results
       → (numberOf a ≡ 0 → ⊥) → (cells ≡ l .cells) × (results ≡ l .results)
   planned-kept a cells results (refused r) n = (refl, refl)
   planned-kept a cells results (done R p plan) n = absurd (n refl)
@@ -94,7 +99,8 @@ plan-1 =
       every = λ x l.
           let p = planned-exists (x .settings) (x .list) (l .cells) (l .results) in
           (record { number = numberOf (p .0); place = placeOf (p .0); lent = record { cells = p .1; results = p .2 } }, (p .0, p .3, (refl, refl)));
-      numbered = λ x l y p. told (planningRows x l) (Needed (x .settings) (x .list)) (p .0) y (p .2) (planned-row x l (p .0) (y .lent .cells) (y .lent .results) (p .1));
+      numbered = λ x l y p. told (planningRows x l) (Needed (x .settings) (x .list)) (p .0) y (p .2)
+          (planned-row x l (p .0) (y .lent .cells) (y .lent .results) (p .1));
       unchanged = λ x l y p n.
           let kept = planned-kept x l (p .0) (y .lent .cells) (y .lent .results) (p .1) (λ z. n (p .2 .0 ∙ z)) in
           λ i. record { cells = kept .0 i; results = kept .1 i };
@@ -107,7 +113,8 @@ apart r lent = record { number = r / 4294967296; place = r % 4294967296; lent = 
 -- the C call gives what planning gives
 pub list-plans : Always PlansList Plans
 list-plans x l y (r, p, h) =
-    let small = planning-small x l (numberOf (p .given)) (placeOf (p .given)) (planned-row x l (p .given) (y .lent .cells) (y .lent .results) (p .planned)) in
+    let small = planning-small x l (numberOf (p .given)) (placeOf (p .given))
+    (planned-row x l (p .given) (y .lent .cells) (y .lent .results) (p .planned)) in
     (p .given, p .planned, comes-apart (p .given) r y small (p .answer) h)
 
 pub plan-list-1 : Demand1Planning PlansList
@@ -121,14 +128,17 @@ plan-list-1 = narrower planningRows (λ x. Needed (x .settings) (x .list)) Plans
 
 bytes-row : (l : List ℕ) (s : Settings) (list : List ℕ) (a : Answer) (exit : List ℕ) → BytesPlanned s list l a exit
     → FirstRow (bytesRows s list l) (Needed s list) (numberOf a) (placeOf a)
-bytes-row l s list a exit (bytes-refused (inl (f, (w, k, e)))) = inl (f, ap numberOf e, subst (LowestOutOfRange s) (sym (ap placeOf e)) k)
+bytes-row l s list a exit (bytes-refused (inl (f, (w, k, e)))) =
+    inl (f, ap numberOf e, subst (LowestOutOfRange s) (sym (ap placeOf e)) k)
 bytes-row l s list a exit (bytes-refused (inr (h, inl (f, e)))) = inr (h, inl (f, ap numberOf e, ap placeOf e))
-bytes-row l s list a exit (bytes-refused (inr (h, inr (k, r)))) = inr (h, inr (k, signal-row s list (Needed s list) a r))
+bytes-row l s list a exit (bytes-refused (inr (h, inr (k, r)))) =
+    inr (h, inr (k, signal-row s list (Needed s list) a r))
 bytes-row l s list a exit (bytes-done R p found shown) =
     let signals = p .1 .1 in
     inr (p .0, inr (p .1 .0, inr (signals .0, inr (signals .1 .0, inr (signals .1 .1 .0, (refl, (R, found, refl)))))))
 
-bytes-kept : (l : List ℕ) (s : Settings) (list : List ℕ) (a : Answer) (exit : List ℕ) → BytesPlanned s list l a exit → (numberOf a ≡ 0 → ⊥) → exit ≡ l
+bytes-kept : (l : List ℕ) (s : Settings) (list : List ℕ) (a : Answer) (exit : List ℕ) → BytesPlanned s list l a exit
+    → (numberOf a ≡ 0 → ⊥) → exit ≡ l
 bytes-kept l s list a exit (bytes-refused r) n = refl
 bytes-kept l s list a exit (bytes-done R p found shown) n = absurd (n refl)
 
@@ -136,10 +146,12 @@ module _ (book l : List ℕ) where
   abbrev bookDone : ℕ → Type 0
   bookDone = Needed (settingsIn book) (listIn book)
 
-  book-row : (a : Answer) (exit : List ℕ) → BookPlanned book l a exit → FirstRow (editorRows book l) bookDone (numberOf a) (placeOf a)
+  book-row : (a : Answer) (exit : List ℕ) → BookPlanned book l a exit
+      → FirstRow (editorRows book l) bookDone (numberOf a) (placeOf a)
   book-row a exit (unread h) = unsound-row book (bytesRows (settingsIn book) (listIn book) l) bookDone h
   book-row a exit (read-planned h p) =
-      pass (bytesRows (settingsIn book) (listIn book) l) bookDone (numberOf a) (placeOf a) (bookRows book) (sound-rows book h)
+      pass (bytesRows (settingsIn book) (listIn book) l) bookDone (numberOf a) (placeOf a) (bookRows book)
+      (sound-rows book h)
       (bytes-row l (settingsIn book) (listIn book) a exit p)
 
   book-kept : (a : Answer) (exit : List ℕ) → BookPlanned book l a exit → (numberOf a ≡ 0 → ⊥) → exit ≡ l
@@ -150,7 +162,8 @@ module _ (book l : List ℕ) where
   pub book-plans : (y : Return (List ℕ)) → PlansBook book l y
       → (a : Answer) × BookPlanned book l a (y .lent) × Tells a y
   book-plans y (r, p, h) =
-      let small = editor-small book l (numberOf (p .given)) (placeOf (p .given)) (book-row (p .given) (y .lent) (p .plan)) in
+      let small = editor-small book l (numberOf (p .given)) (placeOf (p .given))
+      (book-row (p .given) (y .lent) (p .plan)) in
       (p .given, p .plan, comes-apart (p .given) r y small (p .answer) h)
 
 pub plan-book-1 : Demand1Editor PlansBook
@@ -162,7 +175,8 @@ plan-book-1 =
       numbered = λ book l y p.
           let q = book-plans book l y p in
           told (editorRows book l) (bookDone book l) (q .0) y (q .2) (book-row book l (q .0) (y .lent) (q .1));
-      unchanged = λ book l y p n. let q = book-plans book l y p in book-kept book l (q .0) (y .lent) (q .1) (λ z. n (q .2 .0 ∙ z));
+      unchanged = λ book l y p n. let q = book-plans book l y p in book-kept book l (q .0) (y .lent) (q .1)
+          (λ z. n (q .2 .0 ∙ z));
     }
 
 -- ---- reading
@@ -177,7 +191,8 @@ read-row book l false h =
 read-row book l true h =
     let row : (n p : ℕ) → FirstRow (roomRow (5 * signalsOf book) (length l) ∷ []) (λ p. p ≡ signalsOf book) n p
     → FirstRow (readingRows book l) (λ p. p ≡ signalsOf book) n p =
-    λ n p. pass (roomRow (5 * signalsOf book) (length l) ∷ []) (λ p. p ≡ signalsOf book) n p (bookRows book) (sound-rows book h) in
+    λ n p. pass (roomRow (5 * signalsOf book) (length l) ∷ []) (λ p. p ≡ signalsOf book) n p (bookRows book)
+    (sound-rows book h) in
     dite (decLe (5 * signalsOf book) (length l))
     (λ k. subst (ReadingRow book l) (read-done book l h k) (row 0 (signalsOf book) (inr (k, (refl, refl)))))
     (λ n. subst (ReadingRow book l) (read-short book l h (lt-of-not-le n)) (row 10 (5 * signalsOf book) (inl (n, refl, refl))))
@@ -195,7 +210,8 @@ module _ (book l : List ℕ) (s : Settings) (y : Return (List ℕ)) where
   -- the C calls give what reading gives, but for the settings where it refuses
   pub c-reads : ReadsFromC s book l y → (q : Settings) × Reads q book l y
   c-reads (r, read, e, h) =
-      let small = reading-small book l (numberOf (readAnswer book (length l))) (placeOf (readAnswer book (length l))) (read-row book l (sound book) refl) in
+      let small = reading-small book l (numberOf (readAnswer book (length l))) (placeOf (readAnswer book (length l)))
+      (read-row book l (sound book) refl) in
       let given : Reading = record { answer = readAnswer book (length l); settings = settingsGiven book (length l) } in (
         given .settings,
         (given, record { answer = refl; settings = refl; list = read .list }, refl, comes-apart (given .answer) r y small (read .answer) h),
@@ -216,7 +232,8 @@ read-1 =
 
 pub read-c-1 : Demand1Reading ReadsFromC
 read-c-1 =
-    narrower readingRows (λ book p. p ≡ signalsOf book) (λ book l y. (s : Settings) × Reads s book l y) (λ book l y. (s : Settings) × ReadsFromC s book l y)
+    narrower readingRows (λ book p. p ≡ signalsOf book) (λ book l y. (s : Settings) × Reads s book l y)
+    (λ book l y. (s : Settings) × ReadsFromC s book l y)
     (λ book l y p. c-reads book l (p .0) y (p .1))
     (λ book l. let r = packedOf (readAnswer book (length l)) in (
       apart r (listAfter book l),
@@ -251,7 +268,8 @@ write-1 =
           let a = writeAnswer (x .list) (length l) in
           (record { number = numberOf a; place = placeOf a; lent = roomAfter (x .settings) (x .list) l }, (a, record { answer = refl; room = refl }, (refl, refl)));
       numbered = λ x l y p.
-          told (writingRows x l) (λ p. p ≡ blocksFor (count (x .list))) (p .0) y (p .2) (subst (WritingRow x l) (sym (p .1 .answer)) (write-row x l));
+          told (writingRows x l) (λ p. p ≡ blocksFor (count (x .list))) (p .0) y (p .2)
+          (subst (WritingRow x l) (sym (p .1 .answer)) (write-row x l));
       unchanged = λ x l y p n.
           p .1 .room
           ∙ sym (write-refusal (x .settings) (x .list) l (p .0) (p .1 .answer) (ne-eqb (numberOf (p .0)) 0 (λ z. n (p .2 .0 ∙ z))));

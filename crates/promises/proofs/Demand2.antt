@@ -32,7 +32,8 @@ use Rattle.promises.proofs.Demand1.{list-plans, reading-kept, c-reads, 
 
 -- ---- plans
 
-found-ages : (s : Settings) (list : List ℕ) (place : ℕ) (word : ℕ → ℕ) → FoundPlan s list place word → (i : ℕ) → Between 1 (count list) i
+found-ages : (s : Settings) (list : List ℕ) (place : ℕ) (word : ℕ → ℕ) → FoundPlan s list place word → (i : ℕ)
+    → Between 1 (count list) i
     → AgeShown s (signalAt list i) (frameOf word i) (ageOf word i)
 found-ages s list place word f = ages-shown s list (f .R) (f .fillable) word (f .shows)
 
@@ -90,14 +91,16 @@ told-done : {Room : Type 0} (a : Answer) (y : Return Room) → Tells a y → y .
 told-done a y t z = done-at a (sym (t .0) ∙ z) ∙ ap Done (sym (t .1))
 
 -- where writing is done, the list is right and the room is enough
-written-room : (x : Request) (l : List ℕ) (n p : ℕ) → FirstRow (writingRows x l) (λ q. q ≡ blocksFor (count (x .list))) n p → n ≡ 0
+written-room : (x : Request) (l : List ℕ) (n p : ℕ)
+    → FirstRow (writingRows x l) (λ q. q ≡ blocksFor (count (x .list))) n p → n ≡ 0
     → CountInRange (x .list) × (512 * blocksFor (count (x .list)) ≤ length l)
 written-room x l n p (inl (f, e, q)) z = absurd (omega (arith, e, z))
 written-room x l n p (inr (k, inl (f, e, q))) z = absurd (omega (arith, e, z))
 written-room x l n p (inr (k, inr (r, q))) z = (k, r)
 
 -- what reading gives where it is done
-read-done : (s : Settings) → WhereDone (Reads s) (λ book l y. (sound book ≡ true) × (s ≡ settingsIn book) × (y .lent ≡ listIn book ++ drop (5 * signalsOf book) l))
+read-done : (s : Settings)
+    → WhereDone (Reads s) (λ book l y. (sound book ≡ true) × (s ≡ settingsIn book) × (y .lent ≡ listIn book ++ drop (5 * signalsOf book) l))
 read-done s book l y p z =
     let a = read-facts book (length l) (y .place) (sym (p .1 .answer) ∙ told-done (p .0 .answer) y (p .3) z) in
     let given = read-given book l (a .sound) (a .enough) in
@@ -113,7 +116,8 @@ books-2 =
           let w = written-room x l (y .number) (y .place) (write-1 .numbered x l y p) z in
           p .1 .room ∙ sym (write-filled (x .settings) (x .list) l (w .0 .whole) (omega (arith, w .0 .few)) (w .1));
       same-values = λ x room w p z settings words s book l y q same enough.
-          let written = subst (λ (a : Answer). WriteOutcome (x .settings) (x .list) room a (w .lent)) (told-done (p .0) w (p .2) z) (p .1) in
+          let written = subst (λ (a : Answer). WriteOutcome (x .settings) (x .list) room a (w .lent))
+          (told-done (p .0) w (p .2) z) (p .1) in
           let read = subst (λ (b : List ℕ). ReadOutcome b l (q .0) (y .lent)) same (q .1) in
           let given = write-then-read {n = w .place} settings words written enough read in
           record {
@@ -126,7 +130,8 @@ books-2 =
           let accepted = told-done (p .0 .answer) y (p .3) z in
           let values : x ≡ record { settings = p .0 .settings; list = take (5 * y .place) (y .lent) } =
           same ∙ ap (λ (t : Settings). record { settings = t; list = take (5 * y .place) (y .lent) }) (p .2) in
-          let written = subst (λ (v : Request). WriteOutcome (v .settings) (v .list) room (q .0) (w .lent)) values (q .1) in
+          let written = subst (λ (v : Request). WriteOutcome (v .settings) (v .list) room (q .0) (w .lent)) values
+          (q .1) in
           let given = read-then-write {m = y .place} bytes (p .1) accepted enough written in
           let whole = sound-facts book (read-done s book l y p z .0) .whole in
           record {

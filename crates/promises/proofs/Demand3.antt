@@ -31,8 +31,10 @@ accepted-within : (s : Settings) (list : List ℕ) (m : ℕ) → EachSignal list
     → (n p : ℕ) → FirstRow (signalRows s list) (Needed s list) n p → (n ≡ 0) × (p ≤ m)
 accepted-within s list m signals kept least fits n p (inl f) = absurd (f .0 signals)
 accepted-within s list m signals kept least fits n p (inr (h, inl f)) = absurd (f .0 kept)
-accepted-within s list m signals kept least fits n p (inr (h, inr (k, inl f))) = absurd (f .0 (λ R r. omega (arith, least R r)))
-accepted-within s list m signals kept least fits n p (inr (h, inr (k, inr (l, (z, (R, r, e)))))) = (z, omega (arith, least R r, e))
+accepted-within s list m signals kept least fits n p (inr (h, inr (k, inl f))) =
+    absurd (f .0 (λ R r. omega (arith, least R r)))
+accepted-within s list m signals kept least fits n p (inr (h, inr (k, inr (l, (z, (R, r, e)))))) =
+    (z, omega (arith, least R r, e))
 
 -- any way to plan that asks the rows of its signals where it is ready, and shows what it has found where it accepts
 module _
@@ -45,11 +47,13 @@ module _
   where
     -- where there is a table, the call is accepted
     accepted-with :
-        Always Gives (λ x l y. Ready p x l → (frame : ℕ → Frame) → Table (p .settings x) (p .list x) frame → y .number ≡ 0)
+        Always Gives
+        (λ x l y. Ready p x l → (frame : ℕ → Frame) → Table (p .settings x) (p .list x) frame → y .number ≡ 0)
     accepted-with x l y g h frame t =
         let s = p .settings x in
         let list = p .list x in
-        accepted-within s list (s .slots) (h .signals) (λ i b. (frame i .repetition, t .frames i b .repetition, t .keeps i b))
+        accepted-within s list (s .slots) (h .signals)
+        (λ i b. (frame i .repetition, t .frames i b .repetition, t .keeps i b))
         (λ Q q. omega (arith, needed-least s list Q frame q t, used-most (s .slots) (count list) frame)) (omega arith)
         (y .number) (y .place) (rows x l y g h) .0
 
@@ -78,13 +82,15 @@ module _
                 enough = enough;
               } in
               accepted-within s (p .list x′) (y .place) signals (kept-eased s e (h .kept))
-              (λ Q q. omega (arith, needed-eased s e (f .R) Q (h .kept) (h .found) q, f .needs)) (omega (arith, f .needs, h .fits)) (y′ .number) (y′ .place)
+              (λ Q q. omega (arith, needed-eased s e (f .R) Q (h .kept) (h .found) q, f .needs))
+              (omega (arith, f .needs, h .fits)) (y′ .number) (y′ .place)
               (subst (λ (t : Settings). FirstRow (signalRows t (p .list x′)) (Needed t (p .list x′)) (y′ .number) (y′ .place)) same (rows x′ l′ y′ g′ ready));
         }
 
 -- ---- the routines: past the rows before those of the signals
 
-words-rows : (x : Request) (l : PlanRoom) → Ready overWords x l → (n p : ℕ) → FirstRow (planningRows x l) (Needed (x .settings) (x .list)) n p
+words-rows : (x : Request) (l : PlanRoom) → Ready overWords x l → (n p : ℕ)
+    → FirstRow (planningRows x l) (Needed (x .settings) (x .list)) n p
     → FirstRow (signalRows (x .settings) (x .list)) (Needed (x .settings) (x .list)) n p
 words-rows x l h n p =
     past (signalRows (x .settings) (x .list)) (Needed (x .settings) (x .list)) n p
@@ -95,12 +101,14 @@ words-rows x l h n p =
     ∷ [])
     (h .settings, (h .whole, (h .enough .0, (h .enough .1, tt))))
 
-book-rows : (book l : List ℕ) → Ready fromBook book l → (n p : ℕ) → FirstRow (editorRows book l) (Needed (settingsIn book) (listIn book)) n p
+book-rows : (book l : List ℕ) → Ready fromBook book l → (n p : ℕ)
+    → FirstRow (editorRows book l) (Needed (settingsIn book) (listIn book)) n p
     → FirstRow (signalRows (settingsIn book) (listIn book)) (Needed (settingsIn book) (listIn book)) n p
 book-rows book l h n p row =
     let s = settingsIn book in
     let list = listIn book in
-    past (signalRows s list) (Needed s list) n p (settingRow s ∷ roomRow (16 * count list) (length l) ∷ []) (h .settings, (h .enough .1, tt))
+    past (signalRows s list) (Needed s list) n p (settingRow s ∷ roomRow (16 * count list) (length l) ∷ [])
+    (h .settings, (h .enough .1, tt))
     (past (bytesRows s list l) (Needed s list) n p (bookRows book) (h .enough .0) row)
 
 pub plan-3 : Demand3 overWords Plans
@@ -110,17 +118,20 @@ plan-3 =
 
 pub plan-list-3 : Demand3 overWords PlansList
 plan-list-3 =
-    planning-3 overWords PlansList (λ x l y g h. words-rows x l h (y .number) (y .place) (plan-list-1 .numbered x l y g))
+    planning-3 overWords PlansList
+    (λ x l y g h. words-rows x l h (y .number) (y .place) (plan-list-1 .numbered x l y g))
     (λ x l y g z. words-found x l y (list-plans x l y g) z .found)
 
 pub plan-book-3 : Demand3 fromBook PlansBook
 plan-book-3 =
-    planning-3 fromBook PlansBook (λ book l y g h. book-rows book l h (y .number) (y .place) (plan-book-1 .numbered book l y g))
+    planning-3 fromBook PlansBook
+    (λ book l y g h. book-rows book l h (y .number) (y .place) (plan-book-1 .numbered book l y g))
     (λ book l y g z. book-found book l y g z .found)
 
 -- ---- and they fill the table as the scope says
 
-found-fills : (s : Settings) (list : List ℕ) (place : ℕ) (word : ℕ → ℕ) → FoundPlan s list place word → FillingShown list (frameOf word)
+found-fills : (s : Settings) (list : List ℕ) (place : ℕ) (word : ℕ → ℕ) → FoundPlan s list place word
+    → FillingShown list (frameOf word)
 found-fills s list place word f = filling-shown s list (f .R) (f .fillable) word (f .shows)
 
 pub plan-fills : ShowsFilling overWords Plans

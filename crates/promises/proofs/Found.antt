@@ -54,12 +54,17 @@ pub record WordsFound (x : Request) (l : PlanRoom) (place : ℕ) (exit : PlanRoo
   pub cells-behind : Behind (64 * x .settings .slots) (l .cells) (exit .cells)
   pub results-behind : Behind (4 * count (x .list)) (l .results) (exit .results)
 
-pub words-found : (x : Request) (l : PlanRoom) (y : Return PlanRoom) → Plans x l y → y .number ≡ 0 → WordsFound x l (y .place) (y .lent)
-words-found x l y (a, p, t) z = subst (λ (n : ℕ). WordsFound x l n (y .lent)) (sym (t .1)) (accepted a (y .lent .cells) (y .lent .results) p (sym (t .0) ∙ z))
+pub words-found : (x : Request) (l : PlanRoom) (y : Return PlanRoom) → Plans x l y → y .number ≡ 0
+    → WordsFound x l (y .place) (y .lent)
+words-found x l y (a, p, t) z =
+    subst (λ (n : ℕ). WordsFound x l n (y .lent)) (sym (t .1))
+    (accepted a (y .lent .cells) (y .lent .results) p (sym (t .0) ∙ z))
   where
-    accepted : (a : Answer) (cells results : List ℕ) → Planned (x .settings) (x .list) (l .cells) (l .results) a cells results → numberOf a ≡ 0
+    accepted : (a : Answer) (cells results : List ℕ)
+        → Planned (x .settings) (x .list) (l .cells) (l .results) a cells results → numberOf a ≡ 0
         → WordsFound x l (placeOf a) (record { cells = cells; results = results })
-    accepted a cells results (refused r) z = absurd (refusal-number (x .settings) (x .list) (length (l .cells)) (length (l .results)) a r z)
+    accepted a cells results (refused r) z =
+        absurd (refusal-number (x .settings) (x .list) (length (l .cells)) (length (l .results)) a r z)
     accepted a cells results (done R p plan) z =
         let signals = p .1 .1 .1 .1 in
         let h : Fillable (x .settings) (x .list) R =
@@ -91,7 +96,8 @@ pub record BookFound (book l : List ℕ) (place : ℕ) (exit : List ℕ) : Type 
   pub behind : Behind (16 * count (listIn book)) l exit
 
 -- a refusal is never number 0
-not-refused : (s : Settings) (list : List ℕ) (bytes : ℕ) (a : Answer) → Refused (bookQuestions s list bytes) a → numberOf a ≡ 0 → ⊥
+not-refused : (s : Settings) (list : List ℕ) (bytes : ℕ) (a : Answer) → Refused (bookQuestions s list bytes) a
+    → numberOf a ≡ 0 → ⊥
 not-refused s list bytes a (inl (f, (w, l, e))) z = omega (arith, ap numberOf e, z)
 not-refused s list bytes a (inr (h, inl (f, e))) z = omega (arith, ap numberOf e, z)
 not-refused s list bytes a (inr (h, inr (k, inl (f, (i, l, e))))) z = omega (arith, ap numberOf e, z)
@@ -99,13 +105,15 @@ not-refused s list bytes a (inr (h, inr (k, inr (m, inl (f, (i, l, e)))))) z = o
 not-refused s list bytes a (inr (h, inr (k, inr (m, inr (n, inl (f, (R, r, e))))))) z = omega (arith, ap numberOf e, z)
 not-refused s list bytes a (inr (h, inr (k, inr (m, inr (n, inr f))))) z = f .1
 
-pub book-found : (book l : List ℕ) (y : Return (List ℕ)) → PlansBook book l y → y .number ≡ 0 → BookFound book l (y .place) (y .lent)
+pub book-found : (book l : List ℕ) (y : Return (List ℕ)) → PlansBook book l y → y .number ≡ 0
+    → BookFound book l (y .place) (y .lent)
 unfolding sound
 book-found book l y p z =
     let q = book-plans book l y p in
     subst (λ (n : ℕ). BookFound book l n (y .lent)) (sym (q .2 .1)) (read (q .0) (y .lent) (q .1) (sym (q .2 .0) ∙ z))
   where
-    accepted : CountInRange (listIn book) → (a : Answer) (exit : List ℕ) → BytesPlanned (settingsIn book) (listIn book) l a exit → numberOf a ≡ 0
+    accepted : CountInRange (listIn book) → (a : Answer) (exit : List ℕ)
+        → BytesPlanned (settingsIn book) (listIn book) l a exit → numberOf a ≡ 0
         → BookFound book l (placeOf a) exit
     accepted whole a exit (bytes-refused r) z = absurd (not-refused (settingsIn book) (listIn book) (length l) a r z)
     accepted whole a exit (bytes-done {blank} {words} R p found shown) z =
@@ -134,4 +142,5 @@ book-found book l y p z =
     read a exit (unread h) z = absurd (true≢false (sym (eq-eqb (numberOf (judged book)) 0 z) ∙ h))
     read a exit (planned h p) z =
         let few = sound-count book (sound-facts book h) .0 in
-        accepted (record { whole = omega (arith, list-length book); few = omega (arith, list-length book, few) }) a exit p z
+        accepted
+        (record { whole = omega (arith, list-length book); few = omega (arith, list-length book, few) }) a exit p z

@@ -20,7 +20,8 @@ use Rattle.promises.specs.Tables.{taken, slotsUsed, slotsShown}
 use Rattle.promises.proofs.Counting.{sum-term, sum-some}
 
 -- where cells show the frames of m signals, as many slots have a nonzero cell as the frames use
-module _ (s : Settings) (m : ℕ) (frame : ℕ → Frame) (cells : List ℕ) (frames : (i : ℕ) → Between 1 m i → FrameInRange s (frame i))
+module _ (s : Settings) (m : ℕ) (frame : ℕ → Frame) (cells : List ℕ)
+    (frames : (i : ℕ) → Between 1 m i → FrameInRange s (frame i))
     (table : TableShown s m frame cells) where
   abbrev inSlot : ℕ → ℕ
   inSlot k = sum (λ i. same (frame (1 + i) .slot) (1 + k)) m
@@ -44,7 +45,8 @@ module _ (s : Settings) (m : ℕ) (frame : ℕ → Frame) (cells : List ℕ) (fr
               ∙ table .empty (1 + k) c (omega arith) l .1
               (λ i b sends.
               let here = sum-term (λ i. same (frame (1 + i) .slot) (1 + k)) m (i - 1) (omega (arith, b)) in
-              let own : frame (1 + (i - 1)) .slot ≡ 1 + k = ap (λ (j : ℕ). frame j .slot) (add-sub-of-le (b .0)) ∙ sends .0 in
+              let own : frame (1 + (i - 1)) .slot ≡ 1 + k = ap (λ (j : ℕ). frame j .slot)
+              (add-sub-of-le (b .0)) ∙ sends .0 in
               omega (arith, here, z, same-equal (frame (1 + (i - 1)) .slot) (1 + k) own))
 
       some : 1 ≤ inSlot k → min 1 (lit k) ≡ taken m frame (1 + k)
@@ -53,10 +55,14 @@ module _ (s : Settings) (m : ℕ) (frame : ℕ → Frame) (cells : List ℕ) (fr
           let i = 1 + r .0 in
           let b : Between 1 m i = omega (arith, r .1) in
           let f = frames i b in
-          let here : frame i .slot ≡ 1 + k = ⊎-elim (λ a. a .0) (λ a. absurd (omega (arith, r .2, a .1))) (same-cases (frame i .slot) (1 + k)) in
-          let small : frame i .base < 64 = omega (arith, f .base, repetition-most (frame i .repetition) (f .repetition)) in
-          let sends : Sends (frame i) (1 + k) (frame i .base) = (here, record { repetition = f .repetition; base = f .base; again = (0, omega arith) }) in
-          let there = sym (cell (frame i .base)) ∙ table .shown (1 + k) (frame i .base) i (omega arith) small b .1 sends in
+          let here : frame i .slot ≡ 1 + k = ⊎-elim (λ a. a .0) (λ a. absurd (omega (arith, r .2, a .1)))
+          (same-cases (frame i .slot) (1 + k)) in
+          let small : frame i .base < 64 = omega
+          (arith, f .base, repetition-most (frame i .repetition) (f .repetition)) in
+          let sends : Sends (frame i) (1 + k)
+          (frame i .base) = (here, record { repetition = f .repetition; base = f .base; again = (0, omega arith) }) in
+          let there = sym (cell (frame i .base)) ∙ table .shown (1 + k) (frame i .base) i
+          (omega arith) small b .1 sends in
           let one = sum-term (λ c. getD cells (64 * k + c) 0) 64 (frame i .base) small in
           omega (arith, one, there, b, l)
 

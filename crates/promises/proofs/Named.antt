@@ -79,17 +79,21 @@ case1-table =
 
 -- valid settings, a valid list and room
 module _ (l : PlanRoom) (cells : 5952 ≤ length (l .cells)) where
-  pub ready : (list : List ℕ) → CountInRange list → EachSignal list (SignalInRange settings) → 4 * count list ≤ length (l .results)
+  pub ready : (list : List ℕ) → CountInRange list → EachSignal list (SignalInRange settings)
+      → 4 * count list ≤ length (l .results)
       → Ready overWords (asked list) l
-  ready list whole signals results = record { settings = fresh-valid .settings; whole = whole; signals = signals; enough = (cells, results) }
+  ready list whole signals results =
+      record { settings = fresh-valid .settings; whole = whole; signals = signals; enough = (cells, results) }
 
   pub case1-ready : 4 ≤ length (l .results) → Ready overWords (asked case1) l
   case1-ready =
-      ready case1 (record { whole = refl; few = lit≤ tt }) (at-one (λ i. SignalInRange settings (signalAt case1 i)) (fresh-valid .signal))
+      ready case1 (record { whole = refl; few = lit≤ tt })
+      (at-one (λ i. SignalInRange settings (signalAt case1 i)) (fresh-valid .signal))
 
   pub case3-ready : 4 ≤ length (l .results) → Ready overWords (asked case3) l
   case3-ready =
-      ready case3 (record { whole = refl; few = lit≤ tt }) (at-one (λ i. SignalInRange settings (signalAt case3 i)) (stale-valid .signal))
+      ready case3 (record { whole = refl; few = lit≤ tt })
+      (at-one (λ i. SignalInRange settings (signalAt case3 i)) (stale-valid .signal))
 
 -- ---- the books of case 1 and of `pair`
 

@@ -67,7 +67,9 @@ abbrev frame : ℕ → Frame
 frame i = frameOf word i
 
 in-range : (i : ℕ) → Between 1 1 i → FrameInRange settings (frame i)
-in-range = at-one (λ i. FrameInRange settings (frame i)) (record { slot = (lit≤ tt, lit≤ tt); repetition = one; base = lit≤ tt })
+in-range =
+    at-one (λ i. FrameInRange settings (frame i))
+    (record { slot = (lit≤ tt, lit≤ tt); repetition = one; base = lit≤ tt })
 
 pub age-shown-yes : AgeShown settings fresh (frame 1) 16
 unfolding euclid
@@ -86,7 +88,8 @@ age-shown-no age h = omega (arith, h .frame .slot)
 -- slot 1 shows signal 1 in every cycle, and the others nothing
 in-front : (j : ℕ) → j < 64 → getD case1-cells j 0 ≡ 1
 in-front j h =
-    List·getD-append (replicate 64 1) (replicate 5888 0) 0 j (omega (arith, h, length-replicate {A = ℕ} 64 1)) ∙ getD-replicate 64 j 1 0 h
+    List·getD-append (replicate 64 1) (replicate 5888 0) 0 j
+    (omega (arith, h, length-replicate {A = ℕ} 64 1)) ∙ getD-replicate 64 j 1 0 h
 
 behind : (j : ℕ) → 64 ≤ j → j < 5952 → getD case1-cells j 0 ≡ 0
 behind j l h =
@@ -99,14 +102,16 @@ every : (c : ℕ) → Names 1 0 c
 every c = record { repetition = one; base = lit≤ tt; again = (c, omega arith) }
 
 here : (k c : ℕ) → Between 1 93 k → c < 64 → cellOf case1-cells k c ≡ 1 → 1 ≡ k
-here k c b l e = dite (ℕ-discrete k 1) sym (λ n. absurd (omega (arith, e, behind (64 * (k - 1) + c) (omega arith) (omega arith))))
+here k c b l e =
+    dite (ℕ-discrete k 1) sym (λ n. absurd (omega (arith, e, behind (64 * (k - 1) + c) (omega arith) (omega arith))))
 
 there : (k c : ℕ) → c < 64 → 1 ≡ k → cellOf case1-cells k c ≡ 1
 there k c l e = in-front (64 * (k - 1) + c) (omega arith)
 
 cells-show : (k c i : ℕ) → Between 1 93 k → c < 64 → Between 1 1 i → (cellOf case1-cells k c ≡ i) ↔ Sends (frame i) k c
 cells-show k c i b l =
-    at-one (λ i. (cellOf case1-cells k c ≡ i) ↔ Sends (frame i) k c) ((λ e. (here k c b l e, every c)), λ s. there k c l (s .0)) i
+    at-one (λ i. (cellOf case1-cells k c ≡ i) ↔ Sends (frame i) k c)
+    ((λ e. (here k c b l e, every c)), λ s. there k c l (s .0)) i
 
 pub table-shown-yes : TableShown settings 1 frame case1-cells
 table-shown-yes =
@@ -136,7 +141,8 @@ needs-one = refl
 -- no table of case 1 uses fewer slots than one, and there is one that uses one
 one-least : (other : ℕ → Frame) → Table settings case1 other → 1 ≤ slotsUsed 93 1 other
 one-least other t =
-    subst (λ (n : ℕ). n ≤ slotsUsed 93 1 other) needs-one (needed-least settings case1 (λ i. 1) other case1-repetitions t)
+    subst (λ (n : ℕ). n ≤ slotsUsed 93 1 other) needs-one
+    (needed-least settings case1 (λ i. 1) other case1-repetitions t)
 
 uses-one : slotsUsed 93 1 (λ i. slot1) ≡ 1
 unfolding sum same
@@ -150,9 +156,11 @@ accepted-yes =
       table =
           record {
             frames = in-range;
-            keeps = at-one (λ i. Keeps settings (signalAt case1 i) (segment settings) (frame i .repetition)) fresh-keeps;
+            keeps =
+                at-one (λ i. Keeps settings (signalAt case1 i) (segment settings) (frame i .repetition)) fresh-keeps;
             apart = λ i j k c a b l m n. omega (arith, a, b);
-            one-unit = λ i j a b e. let same-one : i ≡ j = omega (arith, a, b) in ap (λ (k : ℕ). signalAt case1 k .unit) same-one;
+            one-unit = λ i j a b e. let same-one : i ≡ j = omega (arith, a, b) in ap
+                (λ (k : ℕ). signalAt case1 k .unit) same-one;
           };
       bounds = at-one (λ i. ageOf word i ≤ signalAt case1 i .bound) (lit≤ tt);
       used = refl;
@@ -160,7 +168,8 @@ accepted-yes =
     }
 
 -- repetition 64, over the bound; and two slots claimed
-pub accepted-no-64 : (place : ℕ) → AcceptedPlan settings case1 place (frameOf (λ p. getD sixty-four p 0)) (ageOf (λ p. getD sixty-four p 0)) → ⊥
+pub accepted-no-64 : (place : ℕ)
+    → AcceptedPlan settings case1 place (frameOf (λ p. getD sixty-four p 0)) (ageOf (λ p. getD sixty-four p 0)) → ⊥
 accepted-no-64 place h = omega (arith, h .bounds 1 (lit≤ tt, lit≤ tt))
 
 pub accepted-no-two : AcceptedPlan settings case1 2 frame (ageOf word) → ⊥
@@ -186,7 +195,8 @@ pub filling-yes : FillingShown case1 frame
 filling-yes =
     record {
       units = λ i j a b l. absurd (omega (arith, l, ap (λ (n : ℕ). signalAt case1 n .unit) (alone i j a b)));
-      lowest = λ i k a. at-one (λ i. Between 1 (frame i .slot) k → Own k) (λ b. (1, (lit≤ tt, lit≤ tt), omega (arith, b))) i a;
+      lowest = λ i k a. at-one (λ i. Between 1 (frame i .slot) k → Own k)
+          (λ b. (1, (lit≤ tt, lit≤ tt), omega (arith, b))) i a;
       onward = λ i j a b h. omega (arith, ap (λ (n : ℕ). frame n .slot) (alone i j a b));
       full = λ i j c a b h l. absurd (omega (arith, l, ap (λ (n : ℕ). frame n .slot) (alone i j a b)));
       first-free = λ i c a l. absurd (at-one (λ i. c < frame i .base → ⊥) (λ l. omega (arith, l)) i a l);
@@ -206,11 +216,14 @@ filling-no h =
 
 -- ---- cases 1, 3 and 12, of every routine that keeps the demands
 
-module _ (Gives : Routine Request PlanRoom) (l : PlanRoom) (y : Return PlanRoom) (cells : 5952 ≤ length (l .cells)) where
+module _ (Gives : Routine Request PlanRoom) (l : PlanRoom) (y : Return PlanRoom)
+    (cells : 5952 ≤ length (l .cells)) where
   -- case 1 is accepted, in one slot
-  pub case1-accepted : Demand3 overWords Gives → 4 ≤ length (l .results) → Gives (asked case1) l y → (y .number ≡ 0) × (y .place ≡ 1)
+  pub case1-accepted : Demand3 overWords Gives → 4 ≤ length (l .results) → Gives (asked case1) l y
+      → (y .number ≡ 0) × (y .place ≡ 1)
   case1-accepted keeps results g =
-      let number : y .number ≡ 0 = dite (ℕ-discrete (y .number) 0) (λ e. e) (λ n. absurd (refuses-all Gives keeps l y cells results g n)) in
+      let number : y .number ≡ 0 = dite (ℕ-discrete (y .number) 0) (λ e. e)
+      (λ n. absurd (refuses-all Gives keeps l y cells results g n)) in
       let a = keeps .accepted (asked case1) l y g number in
       (number, omega (arith, a .fewest (λ i. slot1) case1-table, uses-one, one-least _ (a .table), a .used))
 
@@ -248,16 +261,19 @@ pub sound-no : sound [] ≡ true → ⊥
 unfolding sound judged lengthRight
 sound-no e = true≢false (sym e)
 
-pub given-back-yes : GivenBack (asked case1) (7 ∷ 7 ∷ 7 ∷ 7 ∷ 7 ∷ 7 ∷ []) settings (record { number = 0; place = 1; lent = 1 ∷ 2500 ∷ 0 ∷ 16 ∷ 2500 ∷ 7 ∷ [] })
+pub given-back-yes : GivenBack (asked case1) (7 ∷ 7 ∷ 7 ∷ 7 ∷ 7 ∷ 7 ∷ []) settings
+    (record { number = 0; place = 1; lent = 1 ∷ 2500 ∷ 0 ∷ 16 ∷ 2500 ∷ 7 ∷ [] })
 given-back-yes = record { accepted = refl; signals = refl; settings = refl; words = refl }
 
 -- a reader that writes over what lies behind
 pub given-back-no :
-    GivenBack (asked case1) (7 ∷ 7 ∷ 7 ∷ 7 ∷ 7 ∷ 7 ∷ []) settings (record { number = 0; place = 1; lent = 1 ∷ 2500 ∷ 0 ∷ 16 ∷ 2500 ∷ 0 ∷ [] }) → ⊥
+    GivenBack (asked case1) (7 ∷ 7 ∷ 7 ∷ 7 ∷ 7 ∷ 7 ∷ []) settings
+    (record { number = 0; place = 1; lent = 1 ∷ 2500 ∷ 0 ∷ 16 ∷ 2500 ∷ 0 ∷ [] }) → ⊥
 given-back-no h = omega (arith, ap (λ (l : List ℕ). getD l 5 0) (h .words))
 
 -- the book given back, and a writer that refuses
-pub written-back-yes : (l : List ℕ) → WrittenBack case1-book l (record { number = 0; place = 2; lent = case1-book ++ drop (length case1-book) l })
+pub written-back-yes : (l : List ℕ)
+    → WrittenBack case1-book l (record { number = 0; place = 2; lent = case1-book ++ drop (length case1-book) l })
 written-back-yes l = record { accepted = refl; blocks = sym (case1-holds .bytes); bytes = refl }
 
 pub written-back-no : (lent : List ℕ) → WrittenBack case1-book [] (record { number = 4; place = 2; lent = lent }) → ⊥

@@ -33,10 +33,13 @@ use Rattle.planner.specs.WroteLaws.{each-at, Apart, apart-once}
 use Rattle.planner.specs.WroteLaws.Apart.{beside}
 
 -- of entries that are apart, two at one place are the same
-apart-same : {A : Type 0} {At : A → ℕ → Type 0} {xs : List A} → Apart At xs → {p q : A} → List·Memᴰ p xs → List·Memᴰ q xs → (j : ℕ) → At p j → At q j → p ≡ q
+apart-same : {A : Type 0} {At : A → ℕ → Type 0} {xs : List A} → Apart At xs → {p q : A} → List·Memᴰ p xs
+    → List·Memᴰ q xs → (j : ℕ) → At p j → At q j → p ≡ q
 apart-same (beside n a) (List·Memᴰ·head e) (List·Memᴰ·head f) j x y = e ∙ sym f
-apart-same {At = At} (beside n a) {q = q} (List·Memᴰ·head e) (List·Memᴰ·tail m) j x y = absurd (n q j m (subst (λ z. At z j) e x) y)
-apart-same {At = At} (beside n a) {p = p} (List·Memᴰ·tail m) (List·Memᴰ·head f) j x y = absurd (n p j m (subst (λ z. At z j) f y) x)
+apart-same {At = At} (beside n a) {q = q} (List·Memᴰ·head e) (List·Memᴰ·tail m) j x y =
+    absurd (n q j m (subst (λ z. At z j) e x) y)
+apart-same {At = At} (beside n a) {p = p} (List·Memᴰ·tail m) (List·Memᴰ·head f) j x y =
+    absurd (n p j m (subst (λ z. At z j) f y) x)
 apart-same (beside n a) (List·Memᴰ·tail m) (List·Memᴰ·tail k) j x y = apart-same a m k j x y
 
 each-append : {A : Type 0} (P : A → Type 0) (a b : List A) → Each P a → Each P b → Each P (a ++ b)
@@ -74,10 +77,12 @@ module _ (list : List ℕ) (R : ℕ → ℕ) (seven : (i : ℕ) → Between 1 (c
       entry first (run-places u k e fs os (after t (exponent (f .repetition))) vs)
 
   -- a unit's places
-  pub in-run : (u k : ℕ) → Each (InRun u k (last k (exponentsOf list R u))) (placesOf (ordered (framesOfUnit list R u)) (run (start k) (exponentsOf list R u)))
+  pub in-run : (u k : ℕ)
+      → Each (InRun u k (last k (exponentsOf list R u))) (placesOf (ordered (framesOfUnit list R u)) (run (start k) (exponentsOf list R u)))
   in-run u k =
       let ps = run (start k) (exponentsOf list R u) in
-      run-places u k (last k (exponentsOf list R u)) (ordered (framesOfUnit list R u)) (ordered-own list R seven u) (start k)
+      run-places u k (last k (exponentsOf list R u)) (ordered (framesOfUnit list R u)) (ordered-own list R seven u)
+      (start k)
       (each-both (λ p. k < p .slot) (Valid (last k (exponentsOf list R u) + 1)) ps (start-past k (exponentsOf list R u))
       (run-table k (exponentsOf list R u) (rising list R seven u) .valid))
 
@@ -109,7 +114,8 @@ module _ (list : List ℕ) (R : ℕ → ℕ) (seven : (i : ℕ) → Between 1 (c
       (in-plan n (suc u) j))
 
   -- no slot has two units
-  pub one-unit : (n u k : ℕ) (p q : Place) → List·Memᴰ p (unitsPlaced list R n u k) → List·Memᴰ q (unitsPlaced list R n u k) → p .slot ≡ q .slot
+  pub one-unit : (n u k : ℕ) (p q : Place) → List·Memᴰ p (unitsPlaced list R n u k)
+      → List·Memᴰ q (unitsPlaced list R n u k) → p .slot ≡ q .slot
       → signalAt list (p .signal) .unit ≡ signalAt list (q .signal) .unit
   unfolding unitsPlaced
   one-unit zero u k p q a b e = absurd (List·Memᴰ·not-nil a)
@@ -130,7 +136,8 @@ module _ (list : List ℕ) (R : ℕ → ℕ) (seven : (i : ℕ) → Between 1 (c
       here : (x : Place) → List·Memᴰ x block → InRun u k j x
       here x m = each-at (in-run u k) m
 
-      there : (x : Place) → List·Memᴰ x (unitsPlaced list R n (suc u) j) → InPlan j (planEnd (exponentsOf list R) n (suc u) j) x
+      there : (x : Place) → List·Memᴰ x (unitsPlaced list R n (suc u) j)
+          → InPlan j (planEnd (exponentsOf list R) n (suc u) j) x
       there x m = each-at (in-plan n (suc u) j) m
 
   -- no cell has two places: j counts the cells, 64 a slot
@@ -141,7 +148,8 @@ module _ (list : List ℕ) (R : ℕ → ℕ) (seven : (i : ℕ) → Between 1 (c
   counted p j m at =
       let e = exponent (R (p .signal)) in
       let left : p .base ≡ j % 64 % 2 ^ e =
-      sym (named-remainder (at .1)) ∙ ap (λ (n : ℕ). j % 64 % n) (repetition-power (seven (p .signal) (filled-own list R seven p m))) in
+      sym (named-remainder (at .1)) ∙ ap (λ (n : ℕ). j % 64 % n)
+      (repetition-power (seven (p .signal) (filled-own list R seven p m))) in
       subst (λ (n : ℕ). 1 ≤ n * takes e (p .base) (j % 64)) (sym (same-equal (p .slot) (j / 64) (at .0)))
       (subst (λ (n : ℕ). 1 ≤ 1 * n) (sym (same-equal (p .base) (j % 64 % 2 ^ e) left)) (omega arith))
 
@@ -163,7 +171,8 @@ module _ (list : List ℕ) (R : ℕ → ℕ) (seven : (i : ℕ) → Between 1 (c
   pub slot-needed : (p : Place) → List·Memᴰ p (filled list R) → p .slot ≤ needed list R
   slot-needed p m = omega (arith, each-at (in-plan 256 0 0) m .high, slots-needed list R seven)
 
-  pub place-framed : (s : Settings) → needed list R ≤ s .slots → (p : Place) → List·Memᴰ p (filled list R) → FrameInRange s (frameAt R p)
+  pub place-framed : (s : Settings) → needed list R ≤ s .slots → (p : Place) → List·Memᴰ p (filled list R)
+      → FrameInRange s (frameAt R p)
   place-framed s fits p m =
       let w = each-at (in-plan 256 0 0) m in
       record { slot = omega (arith, w .low, slot-needed p m, fits); repetition = seven (p .signal) (w .signal); base = w .base }

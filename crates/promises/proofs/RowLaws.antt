@@ -52,9 +52,12 @@ module _ (done : ℕ → Type 0) (n p : ℕ) where
 
 -- refusals of the signals
 module _ (s : Settings) (list : List ℕ) (done : ℕ → Type 0) (a : Answer) where
-  pub signal-row : Refused (signalQuestions s list (needed list)) a → FirstRow (signalRows s list) done (numberOf a) (placeOf a)
-  signal-row (inl (f, (i, l, e))) = inl (f, ap numberOf e, subst (LowestWithout list (SignalInRange s)) (sym (ap placeOf e)) l)
-  signal-row (inr (h, inl (f, (i, l, e)))) = inr (h, inl (f, ap numberOf e, subst (LowestWithout list (Kept s)) (sym (ap placeOf e)) l))
+  pub signal-row : Refused (signalQuestions s list (needed list)) a
+      → FirstRow (signalRows s list) done (numberOf a) (placeOf a)
+  signal-row (inl (f, (i, l, e))) =
+      inl (f, ap numberOf e, subst (LowestWithout list (SignalInRange s)) (sym (ap placeOf e)) l)
+  signal-row (inr (h, inl (f, (i, l, e)))) =
+      inr (h, inl (f, ap numberOf e, subst (LowestWithout list (Kept s)) (sym (ap placeOf e)) l))
   signal-row (inr (h, inr (k, inl (f, (R, r, e))))) = inr (h, inr (k, inl (f, ap numberOf e, (R, r, ap placeOf e))))
   signal-row (inr (h, inr (k, inr f))) = absurd (f .1)
 
@@ -62,7 +65,8 @@ module _ (s : Settings) (list : List ℕ) (done : ℕ → Type 0) (a : Answer) w
 abbrev RefusalRow : List Row → (ℕ → Type 0) → Answer → Type 0
 RefusalRow rows done a = eqb (numberOf a) 0 ≡ false → FirstRow rows done (numberOf a) (placeOf a)
 
-unless-row : (done : ℕ → Type 0) (n : ℕ) (place : ℕ → Type 0) (rs : List Row) (t : Bool) (refusal rest : Answer) → numberOf refusal ≡ n
+unless-row : (done : ℕ → Type 0) (n : ℕ) (place : ℕ → Type 0) (rs : List Row) (t : Bool) (refusal rest : Answer)
+    → numberOf refusal ≡ n
     → place (placeOf refusal) → RefusalRow rs done rest
     → RefusalRow (record { number = n; holds = t ≡ true; place = place } ∷ rs) done (unless t refusal rest)
 unless-row done n place rs true refusal rest e p f h = inr (refl, f h)
@@ -119,5 +123,6 @@ module _ (book : List ℕ) where
   book-number rest done n p (inr (a, inl (f, e, q))) = inl (omega (arith, e), λ h. f (h .1 .0))
   book-number rest done n p (inr (a, inr (b, inl (f, e, q)))) = inl (omega (arith, e), λ h. f (h .1 .1 .0))
   book-number rest done n p (inr (a, inr (b, inr (c, inl (f, e, q))))) = inl (omega (arith, e), λ h. f (h .1 .1 .1 .0))
-  book-number rest done n p (inr (a, inr (b, inr (c, inr (d, inl (f, e, q)))))) = inl (omega (arith, e), λ h. f (h .1 .1 .1 .1 .0))
+  book-number rest done n p (inr (a, inr (b, inr (c, inr (d, inl (f, e, q)))))) =
+      inl (omega (arith, e), λ h. f (h .1 .1 .1 .1 .0))
   book-number rest done n p (inr (a, inr (b, inr (c, inr (d, inr (z, r)))))) = inr ((a, (b, (c, (d, (z, tt))))), r)

@@ -48,21 +48,24 @@ module _ (Gives : Routine Request PlanRoom) where
         let f = frameOf (overWords .word (y .lent)) i in
         let h = keeps .ages x l y g z i b .frame in
         let c : f .base < 64 = omega (arith, h .base, repetition-most (f .repetition) (h .repetition)) in
-        let sends : Sends f (f .slot) (f .base) = (refl, record { repetition = h .repetition; base = h .base; again = (0, omega arith) }) in
+        let sends : Sends f (f .slot)
+        (f .base) = (refl, record { repetition = h .repetition; base = h .base; again = (0, omega arith) }) in
         (f .slot, f .base, h .slot, c, keeps .table x l y g z .shown (f .slot) (f .base) i (h .slot) c b .1 sends)
 
     -- one plan for all: case 1 and the empty list cannot have the same table
     pub one-plan-for-all : Gives (asked case1) l y → Gives (asked []) l y → ⊥
     one-plan-for-all g h =
         let at = shown-somewhere (asked case1) g 1 (lit≤ tt, lit≤ tt) in
-        let clear = keeps .table (asked []) l y h z .empty (at .0) (at .1) (at .2) (at .3) .1 (λ i b. absurd (omega (arith, b .0, b .1))) in
+        let clear = keeps .table (asked []) l y h z .empty (at .0) (at .1) (at .2) (at .3) .1
+        (λ i b. absurd (omega (arith, b .0, b .1))) in
         omega (arith, at .4, clear)
 
     -- writes nothing: case 1 in a table lent blank
     pub writes-nothing : Gives (asked case1) l y → y .lent .cells ≡ blank → ⊥
     writes-nothing g e =
         let at = shown-somewhere (asked case1) g 1 (lit≤ tt, lit≤ tt) in
-        let zero : cellOf blank (at .0) (at .1) ≡ 0 = getD-replicate 5952 (64 * (at .0 - 1) + at .1) 0 0 (omega (arith, at .2, at .3)) in
+        let zero : cellOf blank (at .0) (at .1) ≡ 0 = getD-replicate 5952 (64 * (at .0 - 1) + at .1) 0 0
+        (omega (arith, at .2, at .3)) in
         omega (arith, at .4, ap (λ (cells : List ℕ). cellOf cells (at .0) (at .1)) e, zero)
 
     -- invents ages: one that is not the definition's, of any signal
@@ -73,14 +76,16 @@ module _ (Gives : Routine Request PlanRoom) where
         let s = x .settings in
         let t = signalAt (x .list) i in
         let f = frameOf (overWords .word (y .lent)) i in
-        age-unique (firstStart s f) (spanOf s f) (s .packing) (s .slot) (t .offset) (t .period) (ageOf (overWords .word (y .lent)) i) age
+        age-unique (firstStart s f) (spanOf s f) (s .packing) (s .slot) (t .offset) (t .period)
+        (ageOf (overWords .word (y .lent)) i) age
         (keeps .ages x l y g z i b .is-age) true-age
 
   -- ---- what breaks demand 3
 
   module _ (keeps : Demand3 overWords Gives) (l : PlanRoom) (y : Return PlanRoom) where
     -- refuses all lists: case 1 has a table
-    pub refuses-all : 5952 ≤ length (l .cells) → 4 ≤ length (l .results) → Gives (asked case1) l y → (y .number ≡ 0 → ⊥) → ⊥
+    pub refuses-all : 5952 ≤ length (l .cells) → 4 ≤ length (l .results) → Gives (asked case1) l y
+        → (y .number ≡ 0 → ⊥) → ⊥
     refuses-all cells results g n =
         keeps .refused-exactly (asked case1) l y g (case1-ready l cells results) .0 n (λ i. slot1) case1-table
 
@@ -96,7 +101,8 @@ module _ (Gives : Routine Request PlanRoom) where
       pub invents-slots : Gives (asked case1) l y → y .place ≡ 93 → ⊥
       unfolding sum same
       invents-slots g e =
-          let fewer : y .place ≤ 1 = keeps .accepted (asked case1) l y g z .fewest (λ i. slot1) case1-table in omega (arith, e)
+          let fewer : y .place ≤ 1 = keeps .accepted (asked case1) l y g z .fewest (λ i. slot1) case1-table in omega
+          (arith, e)
 
       -- .. or beside any true results another number than theirs
       pub invents-any-slots : (x : Request) (w : Return PlanRoom) → Gives x l y → Gives x l w → w .number ≡ 0
@@ -125,7 +131,8 @@ module _ (Gives : Routine Request PlanRoom) where
 
   -- ---- what breaks the order of filling: the second slot, where the first is not used
 
-  pub second-slot : ShowsFilling overWords Gives → (l : PlanRoom) (y : Return PlanRoom) → y .number ≡ 0 → Gives (asked case1) l y → y .lent .results ≡ slot-two → ⊥
+  pub second-slot : ShowsFilling overWords Gives → (l : PlanRoom) (y : Return PlanRoom) → y .number ≡ 0
+      → Gives (asked case1) l y → y .lent .results ≡ slot-two → ⊥
   second-slot keeps l y z g e =
       let shown = subst (λ (r : List ℕ). FillingShown case1 (frameOf (wordsOf r))) e (keeps (asked case1) l y g z) in
       let first = shown .lowest 1 1 (lit≤ tt, lit≤ tt) (lit≤ tt, lit≤ tt) in
@@ -142,9 +149,11 @@ often-true = age-test settings half (frameOf (wordsOf often) 1) 16 .1 tt .1
 
 -- ---- from the editor: of the book of `pair`
 
-module _ (Gives : Routine (List ℕ) (List ℕ)) (keeps : Demand3 fromBook Gives) (l : List ℕ) (y : Return (List ℕ)) (z : y .number ≡ 0)
+module _ (Gives : Routine (List ℕ) (List ℕ)) (keeps : Demand3 fromBook Gives) (l : List ℕ) (y : Return (List ℕ))
+    (z : y .number ≡ 0)
     (g : Gives pair-book l y) where
-  shown-plan : (bytes : List ℕ) → y .lent ≡ bytes → AcceptedPlan settings pair (y .place) (frameOf (wordAt bytes)) (ageOf (wordAt bytes))
+  shown-plan : (bytes : List ℕ) → y .lent ≡ bytes
+      → AcceptedPlan settings pair (y .place) (frameOf (wordAt bytes)) (ageOf (wordAt bytes))
   shown-plan bytes e =
       subst (λ (b : List ℕ). AcceptedPlan settings pair (y .place) (frameOf (wordAt b)) (ageOf (wordAt b))) e
       (subst (λ (list : List ℕ). AcceptedPlan settings list (y .place) (frameOf (wordAt (y .lent))) (ageOf (wordAt (y .lent)))) (pair-holds .list-in)
@@ -165,16 +174,19 @@ module _ (Gives : Routine (List ℕ) (List ℕ)) (keeps : Demand3 fromBook Gives
       omega (arith, shown-plan colliding e .table .apart 1 2 1 1 (lit≤ tt, lit≤ tt) (lit≤ tt, lit≤ tt) (lit≤ tt) (refl, first) (refl, second))
 
 -- shows each word in its first byte: an age of 2,516 is none
-pub not-a-byte : (Gives : Routine (List ℕ) (List ℕ)) → Demand2Editor Gives → (book l : List ℕ) (y : Return (List ℕ)) → Gives book l y → AllBelow 256 l
+pub not-a-byte : (Gives : Routine (List ℕ) (List ℕ)) → Demand2Editor Gives → (book l : List ℕ) (y : Return (List ℕ))
+    → Gives book l y → AllBelow 256 l
     → (j : ℕ) → getD (y .lent) j 0 ≡ 2516 → ⊥
 not-a-byte Gives keeps book l y g below j e = omega (arith, keeps .bytes book l y g below j, e)
 
 -- ---- books
 
 -- a reader that refuses all books, as with 1: every row of the book of case 1 holds
-pub refuses-all-books : (Gives : Settings → Routine (List ℕ) (List ℕ)) → Demand1Reading Gives → (s : Settings) (l : List ℕ) (y : Return (List ℕ))
+pub refuses-all-books : (Gives : Settings → Routine (List ℕ) (List ℕ)) → Demand1Reading Gives
+    → (s : Settings) (l : List ℕ) (y : Return (List ℕ))
     → 5 ≤ length l → Gives s case1-book l y → y .number ≡ 0
-refuses-all-books Gives keeps s l y enough g = done (past last so (y .number) (y .place) (bookRows case1-book) (sound-rows case1-book (case1-holds .whole)) row)
+refuses-all-books Gives keeps s l y enough g =
+    done (past last so (y .number) (y .place) (bookRows case1-book) (sound-rows case1-book (case1-holds .whole)) row)
   where
     last : List Row
     last = roomRow (5 * signalsOf case1-book) (length l) ∷ []
@@ -201,13 +213,16 @@ refuses-all-values Gives keeps l y enough g = done (keeps .numbered (asked case1
 
 -- a reader whose refusals from C come with settings: number 1 and a cycle of 2,500
 pub refuses-with-settings : (Reads : Settings → Routine (List ℕ) (List ℕ)) (Writes : Routine Request (List ℕ))
-    → Demand2Books (λ n. (n ≡ 0) ⊎ (n ≡ 10)) Reads Writes → (book l : List ℕ) (y : Return (List ℕ)) → y .number ≡ 1 → Reads settings book l y → ⊥
+    → Demand2Books (λ n. (n ≡ 0) ⊎ (n ≡ 10)) Reads Writes → (book l : List ℕ) (y : Return (List ℕ)) → y .number ≡ 1
+    → Reads settings book l y → ⊥
 refuses-with-settings Reads Writes keeps book l y e r =
-    let zeros = keeps .zeros-read settings book l y r (λ g. ⊎-elim (λ z. omega (arith, e, z)) (λ t. omega (arith, e, t)) g) in
+    let zeros = keeps .zeros-read settings book l y r
+    (λ g. ⊎-elim (λ z. omega (arith, e, z)) (λ t. omega (arith, e, t)) g) in
     omega (arith, ap (λ (s : Settings). s .cycle) zeros)
 
 -- a reader and a writer that both take word 2 for the slot length and word 3 for the cycle length
-module _ (Reads : Settings → Routine (List ℕ) (List ℕ)) (Writes : Routine Request (List ℕ)) (keeps : Demand2Books (λ n. n ≡ 0) Reads Writes) (l : List ℕ) (y : Return (List ℕ))
+module _ (Reads : Settings → Routine (List ℕ) (List ℕ)) (Writes : Routine Request (List ℕ))
+    (keeps : Demand2Books (λ n. n ≡ 0) Reads Writes) (l : List ℕ) (y : Return (List ℕ))
     (z : y .number ≡ 0) where
   pub reads-exchanged : Reads (exchanged settings) case1-book l y → ⊥
   reads-exchanged r =

@@ -51,14 +51,16 @@ module _
             let u = subst (λ (f : Frame). Sends f k c) (words-show .frame p m) t in
             ap (λ (j : ℕ). cellOf cells′ j c) (sym (u .0)) ∙ plan .table .holds p c m l (u .1)
 
-    place-sends : (k c : ℕ) (p : Place) → List·Memᴰ p (filled list R) → p .slot ≡ k → Names (R (p .signal)) (p .base) c → Sends (frame (p .signal)) k c
+    place-sends : (k c : ℕ) (p : Place) → List·Memᴰ p (filled list R) → p .slot ≡ k → Names (R (p .signal)) (p .base) c
+        → Sends (frame (p .signal)) k c
     place-sends k c p m e n = subst (λ (f : Frame). Sends f k c) (sym (words-show .frame p m)) (e, n)
 
     own : (p : Place) → List·Memᴰ p (filled list R) → Between 1 (count list) (p .signal)
     own = filled-own list R (seven s list R h)
 
     -- a cell that shows a signal is its frame's: if it were not, no frame would have it, and it would be 0
-    shown-sends : (k c i : ℕ) → Between 1 (s .slots) k → c < 64 → Between 1 (count list) i → cellOf cells′ k c ≡ i → Sends (frame i) k c
+    shown-sends : (k c i : ℕ) → Between 1 (s .slots) k → c < 64 → Between 1 (count list) i → cellOf cells′ k c ≡ i
+        → Sends (frame i) k c
     shown-sends k c i b l at e =
         let f = frames-shown s list R h word words-show i at in
         dite (ℕ-discrete (frame i .slot) k)

@@ -26,4 +26,5 @@ pub mod Promised
 pub mod Named
 pub mod Shams
 pub mod Examples
+pub mod FillingExamples
 pub mod NotVacuous

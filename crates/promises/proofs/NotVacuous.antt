@@ -12,28 +12,28 @@ use lib.Dec.{lit≤}
 use lib.ListN.{length, getD, drop, replicate, getD-replicate, length-replicate, List·getD-append}
 use lib.Seq.{getD-append-add}
 use Rattle.laws.specs.DivisorLaws.{euclid}
+use Rattle.terms.specs.declared.Settings.{Settings}
 use Rattle.terms.specs.declared.Frame.{Frame}
-use Rattle.terms.specs.Ranges.{Between, FrameInRange}
+use Rattle.terms.specs.Ranges.{Between, SettingsInRange, SignalInRange, FrameInRange}
 use Rattle.age.specs.AgeTests.{age-test}
 use Rattle.rule.specs.Rule.{Keeps, segment}
 use Rattle.cycles.specs.Frames.{Names}
 use Rattle.filling.specs.Sums.{sum, total, same}
-use Rattle.planner.specs.Lists.{signalAt, Repetitions}
+use Rattle.planner.specs.Lists.{CountInRange, count, signalAt, EachSignal, Repetitions}
 use Rattle.planner.specs.Filled.{unitFrames, needed}
-use Rattle.book.specs.Reading.{sound, judged, lengthRight}
+use Rattle.book.specs.Reading.{sound, judged, lengthRight, listIn}
 use Rattle.promises.specs.Calls.{Request, PlanRoom, Return, Routine}
-use Rattle.promises.specs.Shows.{frameOf, ageOf, cellOf, Sends, overWords}
+use Rattle.promises.specs.Shows.{frameOf, ageOf, cellOf, Sends, overWords, fromBook}
 use Rattle.promises.specs.Demand1.{Demand1Planning}
 use Rattle.promises.specs.Demand2.{AgeShown, TableShown, Demand2Planning, GivenBack, WrittenBack}
 use Rattle.promises.specs.Tables.{Table, slotsUsed}
 use Rattle.promises.specs.Demand3.{AcceptedPlan, Ready, Demand3}
-use Rattle.promises.specs.Filling.{Before, InUse, FillingShown}
 use Rattle.promises.specs.Rows.{FirstRow, Hold, Needed, planningRows, bookRows, writingRows}
-use Rattle.promises.specs.Inputs.{settings, asked, fresh, case1, case3, twice, blank, case1-results, case1-cells, sixty-four, slot-two, case1-book}
-use Rattle.promises.proofs.Named.{Gets, fresh-gets, fresh-keeps, one, at-one, slot1, case1-table, ready, case1-ready, case3-ready, case1-holds}
+use Rattle.promises.specs.Inputs.{settings, asked, fresh, case1, case3, blank, case1-results, case1-cells, sixty-four, case1-book}
+use Rattle.promises.proofs.Named.{Gets, fresh-valid, fresh-gets, fresh-keeps, one, at-one, slot1, case1-table, ready, case1-ready, case3-ready, case1-holds}
 use Rattle.promises.proofs.Clock.{starts-named, starts-shown}
 use Rattle.promises.proofs.Consequences.{each-number}
-use Rattle.promises.proofs.Examples.{kept-no}
+use Rattle.promises.proofs.Examples.{each-yes, kept-no}
 use Rattle.promises.proofs.Fewest.{needed-least}
 use Rattle.promises.proofs.Releasing.{releases}
 use Rattle.promises.proofs.RowLaws.{sound-rows, rows-sound}
@@ -57,6 +57,20 @@ ready-yes = case1-ready (lent (0 ∷ 0 ∷ 0 ∷ 0 ∷ [])) (omega (arith, lengt
 
 pub ready-no : Ready overWords (asked case1) (lent []) → ⊥
 ready-no h = omega (arith, h .enough .1)
+
+pub ready-book-yes : Ready fromBook case1-book (replicate 16 0)
+ready-book-yes =
+    record {
+      settings = subst SettingsInRange (sym (case1-holds .settings-in)) (fresh-valid .settings);
+      whole = subst CountInRange (sym (case1-holds .list-in)) (record { whole = refl; few = lit≤ tt });
+      signals =
+          subst (λ (s : Settings). EachSignal (listIn case1-book) (SignalInRange s)) (sym (case1-holds .settings-in))
+          (subst (λ (l : List ℕ). EachSignal l (SignalInRange settings)) (sym (case1-holds .list-in)) each-yes);
+      enough = (
+        sound-rows case1-book (case1-holds .whole),
+        omega (arith, ap (λ (l : List ℕ). count l) (case1-holds .list-in), length-replicate {A = ℕ} 16 0),
+      );
+    }
 
 -- ---- the plan of case 1
 
@@ -174,45 +188,6 @@ accepted-no-64 place h = omega (arith, h .bounds 1 (lit≤ tt, lit≤ tt))
 
 pub accepted-no-two : AcceptedPlan settings case1 2 frame (ageOf word) → ⊥
 accepted-no-two h = omega (arith, h .used, accepted-yes .used)
-
--- ---- the order of filling
-
--- equal signals go by place in the list
-pub before-yes : Before twice (λ i. slot1) 1 2
-before-yes = (refl, inr (refl, lit≤ tt))
-
-pub before-no : Before twice (λ i. slot1) 2 1 → ⊥
-before-no (u, inl l) = omega (arith, l)
-before-no (u, inr (e, l)) = omega (arith, l)
-
-pub in-use-yes : InUse case1 frame 1 63
-in-use-yes = (1, (lit≤ tt, lit≤ tt), (refl, every 63))
-
-pub in-use-no : InUse case1 frame 2 63 → ⊥
-in-use-no (j, b, sends) = omega (arith, at-one (λ i. frame i .slot ≡ 1) refl j b, sends .0)
-
-pub filling-yes : FillingShown case1 frame
-filling-yes =
-    record {
-      units = λ i j a b l. absurd (omega (arith, l, ap (λ (n : ℕ). signalAt case1 n .unit) (alone i j a b)));
-      lowest = λ i k a. at-one (λ i. Between 1 (frame i .slot) k → Own k)
-          (λ b. (1, (lit≤ tt, lit≤ tt), omega (arith, b))) i a;
-      onward = λ i j a b h. omega (arith, ap (λ (n : ℕ). frame n .slot) (alone i j a b));
-      full = λ i j c a b h l. absurd (omega (arith, l, ap (λ (n : ℕ). frame n .slot) (alone i j a b)));
-      first-free = λ i c a l. absurd (at-one (λ i. c < frame i .base → ⊥) (λ l. omega (arith, l)) i a l);
-    }
-  where
-    Own : ℕ → Type 0
-    Own k = (j : ℕ) × Between 1 1 j × (frame j .slot ≡ k)
-
-    alone : (i j : ℕ) → Between 1 1 i → Between 1 1 j → i ≡ j
-    alone i j a b = omega (arith, a, b)
-
--- one slot, but not the lowest
-pub filling-no : FillingShown case1 (frameOf (λ p. getD slot-two p 0)) → ⊥
-filling-no h =
-    let first = h .lowest 1 1 (lit≤ tt, lit≤ tt) (lit≤ tt, lit≤ tt) in
-    omega (arith, at-one (λ i. frameOf (λ p. getD slot-two p 0) i .slot ≡ 2) refl (first .0) (first .1), first .2)
 
 -- ---- cases 1, 3 and 12, of every routine that keeps the demands
 

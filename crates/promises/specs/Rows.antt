@@ -38,7 +38,7 @@ settingRow s = record { number = 6; holds = SettingsInRange s; place = LowestOut
 abbrev pub countRow : List ℕ → Row
 countRow list = record { number = 4; holds = CountInRange list; place = λ p. p ≡ 0 }
 
--- 10: "cells, words or bytes needed"; of one lent list, and "the table before the results"
+-- 10: "cells, words or bytes needed", of one lent list
 abbrev pub roomRow : (needs lent : ℕ) → Row
 roomRow needs lent = record { number = 10; holds = needs ≤ lent; place = λ p. p ≡ needs }
 
@@ -54,7 +54,7 @@ signalRows s list =
     ∷ record { number = 9; holds = (R : ℕ → ℕ) → Repetitions s list R → needed list R ≤ s .slots; place = Needed s list }
     ∷ []
 
--- "Planning: 6, 4, 10, 7, 8, 9, 11." 11 has no row: it is never given
+-- "Planning: 6, 4, 10, 7, 8, 9, 11"; of 10 "the table before the results"; 11 has no row: it is never given
 abbrev pub planningRows : Request → PlanRoom → List Row
 planningRows x l =
     settingRow (x .settings)

@@ -1,0 +1,137 @@
+-- The order of filling: the plan of case 10 keeps all its sentences, and for each of them a plan that breaks it, of as few slots as any.
+-- Assumes nothing.
+use mathlib.Core.Path.{_≡_, refl}
+use mathlib.Core.List.{List, [], _∷_}
+use mathlib.Core.Logic.{inl, inr}
+use Prim.Native.Nat.{ℕ, zero, suc, _+_, _*_, _<_}
+use native.Mathlib.Omega.{arith}
+use lib.Dec.{lit≤}
+use lib.ListN.{getD}
+use Rattle.terms.specs.declared.Frame.{Frame}
+use Rattle.terms.specs.Ranges.{Between, Repetition}
+use Rattle.planner.specs.Lists.{signalAt}
+use Rattle.promises.specs.Shows.{frameOf, Sends}
+use Rattle.promises.specs.Filling.{Before, InUse, FillingShown}
+use Rattle.promises.specs.Inputs.{case1, slot-two}
+use Rattle.promises.proofs.Named.{at-one}
+
+-- the frames that results show; ages play no part
+abbrev shows : List ℕ → ℕ → Frame
+shows results = frameOf (λ p. getD results p 0)
+
+-- one signal each of units 1 and 2; three signals of unit 1
+abbrev two-units : List ℕ
+two-units = 1 ∷ 2500 ∷ 0 ∷ 16 ∷ 2500 ∷ 2 ∷ 2500 ∷ 0 ∷ 16 ∷ 2500 ∷ []
+
+abbrev thrice : List ℕ
+thrice = 1 ∷ 5000 ∷ 0 ∷ 16 ∷ 5000 ∷ 1 ∷ 5000 ∷ 0 ∷ 16 ∷ 5000 ∷ 1 ∷ 5000 ∷ 0 ∷ 16 ∷ 5000 ∷ []
+
+-- ---- case 10: "One unit, repetitions 4, 2, 4 in list order: bases 1, 0, 3, one full slot."
+
+abbrev case10 : ℕ → Frame
+case10 = shows (1 ∷ 1 ∷ 4 ∷ 0 ∷ 1 ∷ 0 ∷ 2 ∷ 0 ∷ 1 ∷ 3 ∷ 4 ∷ 0 ∷ [])
+
+-- equal repetitions go by place in the list
+pub before-yes : Before thrice case10 1 3
+before-yes = (refl, inr (refl, lit≤ tt))
+
+pub before-no : Before thrice case10 1 2 → ⊥
+before-no (u, inl l) = omega (arith, l)
+before-no (u, inr (e, l)) = omega (arith, e)
+
+at-three : (P : ℕ → Type 0) → P 1 → P 2 → P 3 → (i : ℕ) → Between 1 3 i → P i
+at-three P p q r zero b = absurd (omega (arith, b .0))
+at-three P p q r (suc zero) b = p
+at-three P p q r (suc (suc zero)) b = q
+at-three P p q r (suc (suc (suc zero))) b = r
+at-three P p q r (suc (suc (suc (suc i)))) b = absurd (omega (arith, b .1))
+
+two : Repetition 2
+two = (1, lit≤ tt, refl)
+
+four : Repetition 4
+four = (2, lit≤ tt, refl)
+
+-- the frame of repetition 2 in the even cycles, and the first of repetition 4 in cycle 1
+even : (k : ℕ) → Sends (case10 2) 1 (0 + k * 2)
+even k = (refl, record { repetition = two; base = lit≤ tt; again = (k, refl) })
+
+one-first : Sends (case10 1) 1 1
+one-first = (refl, record { repetition = four; base = lit≤ tt; again = (0, refl) })
+
+pub in-use-yes : InUse thrice case10 1 62
+in-use-yes = (2, (lit≤ tt, lit≤ tt), even 31)
+
+pub in-use-no : InUse thrice case10 2 62 → ⊥
+in-use-no (j, b, sends) = omega (arith, at-three (λ i. case10 i .slot ≡ 1) refl refl refl j b, sends .0)
+
+pub filling-yes : FillingShown thrice case10
+filling-yes =
+    record {
+      units = λ i j a b l. absurd (omega (arith, l, unit i a, unit j b));
+      lowest = λ i k a b. (1, (lit≤ tt, lit≤ tt), omega (arith, b, slot i a));
+      onward = λ i j a b h. omega (arith, slot i a, slot j b);
+      full = λ i j c a b h l. absurd (omega (arith, l, slot i a, slot j b));
+      first-free = λ i c a. at-three (λ i. c < case10 i .base → Taken i c) (first c) (λ l. absurd (omega (arith, l))) (third c) i a;
+    }
+  where
+    unit : (i : ℕ) → Between 1 3 i → signalAt thrice i .unit ≡ 1
+    unit = at-three (λ i. signalAt thrice i .unit ≡ 1) refl refl refl
+
+    slot : (i : ℕ) → Between 1 3 i → case10 i .slot ≡ 1
+    slot = at-three (λ i. case10 i .slot ≡ 1) refl refl refl
+
+    Taken : ℕ → ℕ → Type 0
+    Taken i c = (j : ℕ) × Between 1 3 j × Before thrice case10 j i × Sends (case10 j) (case10 i .slot) c
+
+    first : (c : ℕ) → c < 1 → Taken 1 c
+    first zero l = (2, (lit≤ tt, lit≤ tt), (refl, inl (lit≤ tt)), even 0)
+    first (suc c) l = absurd (omega (arith, l))
+
+    third : (c : ℕ) → c < 3 → Taken 3 c
+    third zero l = (2, (lit≤ tt, lit≤ tt), (refl, inl (lit≤ tt)), even 0)
+    third (suc zero) l = (1, (lit≤ tt, lit≤ tt), before-yes, one-first)
+    third (suc (suc zero)) l = (2, (lit≤ tt, lit≤ tt), (refl, inl (lit≤ tt)), even 1)
+    third (suc (suc (suc c))) l = absurd (omega (arith, l))
+
+-- ---- one wrong plan for each sentence
+
+-- unit 2 before unit 1
+pub units-no : FillingShown two-units (shows (2 ∷ 0 ∷ 1 ∷ 0 ∷ 1 ∷ 0 ∷ 1 ∷ 0 ∷ [])) → ⊥
+units-no h = omega (arith, h .units 1 2 (lit≤ tt, lit≤ tt) (lit≤ tt, lit≤ tt) (lit≤ tt))
+
+-- one slot, but not the lowest
+pub lowest-no : FillingShown case1 (shows slot-two) → ⊥
+lowest-no h =
+    let first = h .lowest 1 1 (lit≤ tt, lit≤ tt) (lit≤ tt, lit≤ tt) in
+    omega (arith, at-one (λ i. shows slot-two i .slot ≡ 2) refl (first .0) (first .1), first .2)
+
+-- in list order, repetitions 4, 4, 2: the frame of repetition 2 comes too late for the first slot
+pub onward-no : FillingShown thrice (shows (1 ∷ 0 ∷ 4 ∷ 0 ∷ 1 ∷ 1 ∷ 4 ∷ 0 ∷ 2 ∷ 0 ∷ 2 ∷ 0 ∷ [])) → ⊥
+onward-no h = omega (arith, h .onward 3 1 (lit≤ tt, lit≤ tt) (lit≤ tt, lit≤ tt) (refl, inl (lit≤ tt)))
+
+-- three of repetition 2: one in slot 1 and two in slot 2, as few slots as any, but slot 1 was left half empty
+abbrev half-left : List ℕ
+half-left = 1 ∷ 0 ∷ 2 ∷ 0 ∷ 2 ∷ 0 ∷ 2 ∷ 0 ∷ 2 ∷ 1 ∷ 2 ∷ 0 ∷ []
+
+pub full-no : FillingShown thrice (shows half-left) → ⊥
+full-no h =
+    let used = h .full 1 2 1 (lit≤ tt, lit≤ tt) (lit≤ tt, lit≤ tt) (refl, inr (refl, lit≤ tt)) (lit≤ tt) (lit≤ tt) in
+    at-three (λ i. Sends (shows half-left i) 1 1 → ⊥) (λ t. odd (t .1 .again .0) (t .1 .again .1)) (λ t. omega (arith, t .0))
+    (λ t. omega (arith, t .0)) (used .0) (used .1) (used .2)
+  where
+    odd : (k : ℕ) → 1 ≡ 0 + k * 2 → ⊥
+    odd k e = omega (arith, e)
+
+-- the second cycle, where the first is free
+abbrev late : ℕ → Frame
+late = shows (1 ∷ 1 ∷ 2 ∷ 0 ∷ [])
+
+pub first-free-no : FillingShown case1 late → ⊥
+first-free-no h =
+    let f = h .first-free 1 0 (lit≤ tt, lit≤ tt) (lit≤ tt) in
+    itself (at-one (λ i. Before case1 late i 1 → Before case1 late 1 1) (λ b. b) (f .0) (f .1) (f .2))
+  where
+    itself : Before case1 late 1 1 → ⊥
+    itself (u, inl l) = omega (arith, l)
+    itself (u, inr (e, l)) = omega (arith, l)

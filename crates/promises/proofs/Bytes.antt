@@ -1,4 +1,5 @@
--- Planning a book: the bytes of its results, four little-endian words a signal, show the filling; what lies behind stays.
+-- Planning a book: the bytes of its results, four little-endian words a signal, show the filling; what lies behind
+-- stays, and bytes come back as bytes.
 -- Assumes nothing.
 use mathlib.Core.Path.{_≡_, _∙_, sym, ap, subst}
 use mathlib.Core.Bool.{Bool, true, false, cond}

@@ -203,6 +203,12 @@ lower = 1 ∷ 2500 ∷ 0 ∷ 16 ∷ 2000 ∷ []
 abbrev both : List ℕ
 both = 1 ∷ 2500 ∷ 15 ∷ 16 ∷ 2500 ∷ lower
 
+pub raised-yes : RaisedSignal (signalAt lower 1) fresh
+raised-yes = record { unit = refl; period = refl; offset = refl; size = refl; raised = lit≤ tt; most = lit≤ tt }
+
+pub raised-no : RaisedSignal fresh (signalAt lower 1) → ⊥
+raised-no h = omega (arith, h .raised)
+
 -- the first signal struck, and the second's bound raised
 pub eased-yes : Eased both case1
 eased-yes =
@@ -211,8 +217,7 @@ eased-yes =
       was = suc;
       rising = λ i j a b c. omega arith;
       within = λ j b. omega arith;
-      raised = at-one (λ j. RaisedSignal (signalAt both (suc j)) (signalAt case1 j))
-          (record { unit = refl; period = refl; offset = refl; size = refl; raised = lit≤ tt; most = lit≤ tt });
+      raised = at-one (λ j. RaisedSignal (signalAt both (suc j)) (signalAt case1 j)) raised-yes;
     }
 
 -- a bound lowered

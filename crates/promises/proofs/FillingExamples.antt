@@ -1,4 +1,4 @@
--- The order of filling: the plan of case 10 keeps all its sentences, and for each of them a plan that breaks it, of as few slots as any.
+-- The order of filling: the plan of case 10 keeps all its sentences, and for each of them there is a plan that breaks it.
 -- Assumes nothing.
 use mathlib.Core.Path.{_≡_, refl}
 use mathlib.Core.List.{List, [], _∷_}

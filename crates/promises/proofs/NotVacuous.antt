@@ -21,6 +21,7 @@ use Rattle.cycles.specs.Frames.{Names}
 use Rattle.filling.specs.Sums.{sum, total, same}
 use Rattle.planner.specs.Lists.{CountInRange, count, signalAt, EachSignal, Repetitions}
 use Rattle.planner.specs.Filled.{unitFrames, needed}
+use Rattle.planner.specs.JudgedLaws.{needed-same}
 use Rattle.book.specs.Reading.{sound, judged, lengthRight, listIn}
 use Rattle.promises.specs.Calls.{Request, PlanRoom, Return, Routine}
 use Rattle.promises.specs.Shows.{frameOf, ageOf, cellOf, Sends, overWords, fromBook}
@@ -29,8 +30,8 @@ use Rattle.promises.specs.Demand2.{AgeShown, TableShown, Demand2Planning
 use Rattle.promises.specs.Tables.{Table, slotsUsed}
 use Rattle.promises.specs.Demand3.{AcceptedPlan, Ready, Demand3}
 use Rattle.promises.specs.Rows.{FirstRow, Hold, Needed, planningRows, bookRows, writingRows}
-use Rattle.promises.specs.Inputs.{settings, asked, fresh, case1, case3, blank, case1-results, case1-cells, sixty-four, case1-book}
-use Rattle.promises.proofs.Named.{Gets, fresh-valid, fresh-gets, fresh-keeps, one, at-one, slot1, case1-table, ready, case1-ready, case3-ready, case1-holds}
+use Rattle.promises.specs.Inputs.{settings, asked, fresh, case1, case3, single, blank, case1-results, case1-cells, sixty-four, case1-book}
+use Rattle.promises.proofs.Named.{Gets, fresh-valid, fresh-gets, half-gets, fresh-keeps, one, at-one, slot1, case1-table, ready, case1-ready, case3-ready, case1-holds}
 use Rattle.promises.proofs.Clock.{starts-named, starts-shown}
 use Rattle.promises.proofs.Consequences.{each-number}
 use Rattle.promises.proofs.Examples.{each-yes, kept-no}
@@ -145,12 +146,27 @@ table-shown-no h =
     let one-there = h .shown 1 0 1 (lit≤ tt, lit≤ tt) (lit≤ tt) (lit≤ tt, lit≤ tt) .1 (refl, every 0) in
     omega (arith, one-there, getD-replicate {A = ℕ} 5952 0 0 0 (lit≤ tt))
 
+-- the rule gives the signal of case 1 repetition 1, and 5000/0/5000 not 1 but 2
 case1-repetitions : Repetitions settings case1 (λ i. 1)
 case1-repetitions = at-one (λ i. Gets (signalAt case1 i) 1) fresh-gets
+
+pub repetitions-yes : Repetitions settings case1 (λ i. 1)
+repetitions-yes = case1-repetitions
+
+pub repetitions-no : Repetitions settings single (λ i. 1) → ⊥
+repetitions-no r =
+    let two = half-gets .has (λ e. omega (arith, e)) in
+    omega (arith, r 1 (lit≤ tt, lit≤ tt) .largest 2 (two .0) (two .1))
 
 needs-one : needed case1 (λ i. 1) ≡ 1
 unfolding sum total unitFrames
 needs-one = refl
+
+pub needed-yes : Needed settings case1 1
+needed-yes = ((λ i. 1), case1-repetitions, sym needs-one)
+
+pub needed-no : Needed settings case1 2 → ⊥
+needed-no (R, r, e) = omega (arith, e, needed-same settings case1 R (λ i. 1) r case1-repetitions, needs-one)
 
 -- no table of case 1 uses fewer slots than one, and there is one that uses one
 one-least : (other : ℕ → Frame) → Table settings case1 other → 1 ≤ slotsUsed 93 1 other

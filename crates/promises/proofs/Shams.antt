@@ -30,7 +30,8 @@ use Rattle.promises.specs.Demand3.{AcceptedPlan, Demand3}
 use Rattle.promises.specs.Filling.{FillingShown, ShowsFilling}
 use Rattle.promises.specs.Inputs.{settings, asked, fresh, half, case1, twice, single, pair, blank, sixty-four, slot-two, often, invented, spread, colliding, case1-book, pair-book, exchanged}
 use Rattle.promises.proofs.Bytes.{word-in-front}
-use Rattle.promises.proofs.Named.{half-gets, at-one, slot1, case1-table, case1-ready, case1-holds, pair-holds}
+use Rattle.promises.proofs.FillingExamples.{lowest-no}
+use Rattle.promises.proofs.Named.{half-gets, slot1, case1-table, case1-ready, case1-holds, pair-holds}
 use Rattle.promises.proofs.RowLaws.{past, sound-rows}
 
 -- the words of results that are known
@@ -134,9 +135,7 @@ module _ (Gives : Routine Request PlanRoom) where
   pub second-slot : ShowsFilling overWords Gives → (l : PlanRoom) (y : Return PlanRoom) → y .number ≡ 0
       → Gives (asked case1) l y → y .lent .results ≡ slot-two → ⊥
   second-slot keeps l y z g e =
-      let shown = subst (λ (r : List ℕ). FillingShown case1 (frameOf (wordsOf r))) e (keeps (asked case1) l y g z) in
-      let first = shown .lowest 1 1 (lit≤ tt, lit≤ tt) (lit≤ tt, lit≤ tt) in
-      omega (arith, at-one (λ i. frameOf (wordsOf slot-two) i .slot ≡ 2) refl (first .0) (first .1), first .2)
+      lowest-no (subst (λ (r : List ℕ). FillingShown case1 (frameOf (wordsOf r))) e (keeps (asked case1) l y g z))
 
 -- what they show is true as far as it goes: the ages are the definition's
 pub sixty-four-true : Age settings fresh (frameOf (wordsOf sixty-four) 1) (ageOf (wordsOf sixty-four) 1)

@@ -1,4 +1,4 @@
--- What the ranges leave of a frame's numbers, so that the formula's sums fit 32 bits.
+-- For private contracts alone: what the ranges leave of a frame's numbers, so that the formula's sums fit 32 bits.
 use Prim.Native.Nat.{ℕ, _≤_, _<_}
 
 pub record Bounded (first span packing slot period : ℕ) : Type 0 where

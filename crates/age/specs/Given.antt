@@ -10,7 +10,7 @@ use Rattle.age.specs.Formula.{Longest}
 
 pub record InRange (s : Settings) (x : Signal) (f : Frame) : Type 0 where
   pub valid : Valid s x
-  pub frame : FrameInRange s f
+  pub frame : FrameInRange (s .slots) f
 
 -- "Asked of one frame alone, the age is 0 exactly where a setting, the signal or the frame is out of range."
 abbrev pub AgeGiven : Settings → Signal → Frame → ℕ → Type 0

@@ -1,115 +1,116 @@
--- A book that reading accepts: each of its words is the word that writing makes of the settings and the list that were read.
-use mathlib.Core.Path.{_≡_, refl, sym, ap, _∙_}
+-- A sound book: each of its words is the word that writing makes of the settings and the list that are read from it.
+-- Assumes nothing.
+use mathlib.Core.Path.{_≡_, refl, sym, ap, _∙_, subst}
 use mathlib.Core.List.{List}
-use mathlib.Core.Logic.{⊎-elim}
+use mathlib.Core.Logic.{dite}
 use Prim.Native.Nat.{ℕ, zero, suc, _+_, _-_, _*_, _/_, _%_, _^_, _≤_, _<_}
-use native.Mathlib.Nat.{eq-zero-or-pos}
+use native.Mathlib.Decide.{decLt}
 use native.Mathlib.Omega.{arith}
-use lib.ListN.{length, getD, List·getD-eq-default}
-use borrow.Author.Tests.{ne-eqb}
-use Rattle.book.specs.Words.{AllBelow, wordAt, checkOf}
-use Rattle.book.specs.Blocks.{signalsIn, blocksFor, settingsBlock, signalBlock, bodyWord, blockWord, bookWord, bookOf}
-use Rattle.book.specs.Reading.{blocksIn, inBlock, signalsOf, usedIn, settingsIn, listWord, listIn}
-use Rattle.book.proofs.RunLaws.{below-or-past, upTo-length, upTo-at, sum-same}
-use Rattle.book.proofs.WordLaws.{bytes-of-words, signal-listed, signal-past}
-use Rattle.book.proofs.SoundLaws.{SoundBook, sound-count, sound-check, sound-number, sound-kind, sound-share, sound-zero}
-use Rattle.book.proofs.WrittenLaws.{body-settings, body-signals, block-body, block-check}
+use lib.Dec.{lit<}
+use lib.ListN.{length, getD}
+use Rattle.laws.specs.Rows.{Hold}
+use Rattle.terms.specs.Lists.{signalSize, count, CountInRange}
+use Rattle.book.specs.Words.{AllBelow, wordAt}
+use Rattle.book.specs.Blocks.{AreWords, sectionSize, signalsIn, blocksFor, settingsWords, signalWords}
+use Rattle.book.specs.Blocks.{bodyWord, blockWord, bookWord, bookOf}
+use Rattle.book.specs.Reading.{blocksIn, inBlock, signalsOf, usedIn, bookRows, settingsIn, listWord, listIn}
+use Rattle.book.proofs.RunLaws.{upTo-length, upTo-at, check-same}
+use Rattle.book.proofs.WordLaws.{all-below, word-fits, bytes-of-words}
+use Rattle.book.proofs.BlockLaws.{signal-listed, body-zero, block-body, block-check}
+use Rattle.book.proofs.SoundLaws.{sound-length, sound-count, sound-check, sound-kind, sound-share, sound-zeros}
 
--- the list that is read has five words a signal
-pub list-length : (b : List ℕ) → length (listIn b) ≡ 5 * signalsOf b
+-- ---- the list that is read
+
+pub list-length : (b : List ℕ) → length (listIn b) ≡ signalSize * signalsOf b
 unfolding listIn
-list-length b = upTo-length (listWord b) (5 * signalsOf b)
+list-length b = upTo-length (listWord b) (signalSize * signalsOf b)
 
-pub list-signals : (b : List ℕ) → length (listIn b) / 5 ≡ signalsOf b
-list-signals b = omega (arith, list-length b)
+pub list-count : (b : List ℕ) → count (listIn b) ≡ signalsOf b
+list-count b = omega (arith, list-length b)
 
-pub list-at : (b : List ℕ) (i : ℕ) → i < 5 * signalsOf b → getD (listIn b) i 0 ≡ listWord b i
+pub list-at : (b : List ℕ) (i : ℕ) → i < signalSize * signalsOf b → getD (listIn b) i 0 ≡ listWord b i
 unfolding listIn
-list-at b i h = upTo-at (listWord b) (5 * signalsOf b) i h
+list-at b i h = upTo-at (listWord b) (signalSize * signalsOf b) i h
 
-module _ (b : List ℕ) (facts : SoundBook b) where
-  settings-used : (w : ℕ) → 8 ≤ w → usedIn (signalsOf b) 0 ≤ w
-  settings-used w h = h
+-- what is read of bytes are words
+module _ (b : List ℕ) (bytes : AllBelow 256 b) where
+  pub settings-words : AreWords (settingsIn b)
+  unfolding settingsIn
+  settings-words =
+      record {
+        cycle = word-fits b bytes 2;
+        slot = word-fits b bytes 3;
+        slots = word-fits b bytes 4;
+        packing = word-fits b bytes 5;
+        payload = word-fits b bytes 6;
+      }
 
-  signals-used : (k w : ℕ) → 0 < k → 3 + 5 * signalsIn (signalsOf b) k ≤ w → usedIn (signalsOf b) k ≤ w
-  signals-used k w some h = simp (ne-eqb k 0 (λ e. omega arith)) h
-
-  accepted-settings : 0 < blocksIn b → (w : ℕ) → w < 127 → inBlock b 0 w ≡ getD (settingsBlock (settingsIn b) (signalsOf b)) w 0
-  unfolding settingsBlock settingsIn
-  accepted-settings h zero v = sound-number b facts 0 h
-  accepted-settings h (suc zero) v = sound-kind b facts 0 h
-  accepted-settings h (suc (suc zero)) v = refl
-  accepted-settings h (suc (suc (suc zero))) v = refl
-  accepted-settings h (suc (suc (suc (suc zero)))) v = refl
-  accepted-settings h (suc (suc (suc (suc (suc zero))))) v = refl
-  accepted-settings h (suc (suc (suc (suc (suc (suc zero)))))) v = refl
-  accepted-settings h (suc (suc (suc (suc (suc (suc (suc zero))))))) v = refl
-  accepted-settings h (suc (suc (suc (suc (suc (suc (suc (suc w)))))))) v =
-      sound-zero b facts 0 h (suc (suc (suc (suc (suc (suc (suc (suc w)))))))) v (settings-used _ (omega arith))
-
-  -- a word from word 3 on: one of the list, or zero
-  accepted-listed : (k w : ℕ) → 0 < k → k < blocksIn b → 3 ≤ w → w < 123 → inBlock b k w ≡ getD (listIn b) (120 * (k - 1) + (w - 3)) 0
+  pub list-words : AllBelow (2 ^ 32) (listIn b)
   unfolding listWord
-  accepted-listed k w some h low high =
-      ⊎-elim
-      (λ l.
-      let there : 120 * (k - 1) + (w - 3) < 5 * signalsOf b = l in
-      let block : k ≡ 1 + (120 * (k - 1) + (w - 3)) / 120 = omega arith in
-      let word : w ≡ 3 + (120 * (k - 1) + (w - 3)) % 120 = omega arith in
-      (λ i. inBlock b (block i) (word i)) ∙ sym (list-at b (120 * (k - 1) + (w - 3)) there))
-      (λ p.
-      let past : 5 * signalsOf b ≤ 120 * (k - 1) + (w - 3) = p in
-      let own : 3 + 5 * signalsIn (signalsOf b) k ≤ w = omega arith in
-      sound-zero b facts k h w (omega arith) (signals-used k w some own)
-      ∙ sym (List·getD-eq-default (listIn b) 0 {n = 120 * (k - 1) + (w - 3)} (omega (arith, list-length b))))
-      (below-or-past (120 * (k - 1) + (w - 3)) (5 * signalsOf b))
+  list-words =
+      all-below (2 ^ 32) (listIn b) (lit< tt)
+      (λ i h. subst (λ (x : ℕ). x < 2 ^ 32) (sym (list-at b i (omega (arith, list-length b)))) (word-fits b bytes _))
 
-  accepted-signals : (k : ℕ) → 0 < k → k < blocksIn b → (w : ℕ) → w < 127 → inBlock b k w ≡ getD (signalBlock (listIn b) k) w 0
-  unfolding signalBlock
-  accepted-signals k some h zero v = sound-number b facts k h
-  accepted-signals k some h (suc zero) v = sound-kind b facts k h
-  accepted-signals k some h (suc (suc zero)) v = sound-share b facts k h some ∙ ap (λ (m : ℕ). signalsIn m k) (sym (list-signals b))
-  accepted-signals k some h (suc (suc (suc j))) v =
-      let w : ℕ = suc (suc (suc j)) in
-      ⊎-elim
-      (λ low. accepted-listed k w some h (omega arith) low ∙ sym (signal-listed (listIn b) k w (omega arith) low))
+module _ (b : List ℕ) (sound : Hold (bookRows b)) where
+  pub list-in-range : CountInRange (listIn b)
+  list-in-range =
+      record { whole = omega (arith, list-length b); few = omega (arith, list-count b, sound-count b sound .0) }
+
+  -- ---- its words
+
+  -- word d behind the share of a signal block is one of the list
+  listed : (k d : ℕ) → d < sectionSize → sectionSize * k + d < signalSize * signalsOf b
+      → inBlock b (suc k) (suc (suc (suc d))) ≡ getD (listIn b) (sectionSize * (suc k - 1) + d) 0
+  unfolding listWord
+  listed k d h there =
+      let same : sectionSize * k + d ≡ sectionSize * (suc k - 1) + d = omega arith in
+      let block : suc k ≡ 1 + (sectionSize * k + d) / sectionSize = omega arith in
+      let word : suc (suc (suc d)) ≡ 3 + (sectionSize * k + d) % sectionSize = omega arith in
+      (λ i. inBlock b (block i) (word i))
+      ∙ sym (list-at b (sectionSize * k + d) there)
+      ∙ ap (λ (n : ℕ). getD (listIn b) n 0) same
+
+  -- a word of a block's own
+  own : (k w : ℕ) → k < blocksIn b → w < usedIn (signalsOf b) k → inBlock b k w ≡ bodyWord (settingsIn b) (listIn b) k w
+  unfolding settingsIn settingsWords signalWords
+  own k zero h v = sound-kind b sound k h .0
+  own k (suc zero) h v = sound-kind b sound k h .1
+  own zero (suc (suc zero)) h v = refl
+  own zero (suc (suc (suc zero))) h v = refl
+  own zero (suc (suc (suc (suc zero)))) h v = refl
+  own zero (suc (suc (suc (suc (suc zero))))) h v = refl
+  own zero (suc (suc (suc (suc (suc (suc zero)))))) h v = refl
+  own zero (suc (suc (suc (suc (suc (suc (suc zero))))))) h v = sym (list-count b)
+  own zero (suc (suc (suc (suc (suc (suc (suc (suc w)))))))) h v = absurd (omega arith)
+  own (suc k) (suc (suc zero)) h v =
+      sound-share b sound (suc k) h ∙ ap (λ (m : ℕ). signalsIn m (suc k)) (sym (list-count b))
+  own (suc k) (suc (suc (suc d))) h v =
+      listed k d (omega arith) (omega arith) ∙ sym (signal-listed (listIn b) (suc k) d (omega arith))
+
+  body : (k : ℕ) → k < blocksIn b → (w : ℕ) → w < 127 → inBlock b k w ≡ bodyWord (settingsIn b) (listIn b) k w
+  body k h w v =
+      dite (decLt w (usedIn (signalsOf b) k)) (λ low. own k w h low)
       (λ high.
-      let own : 3 + 5 * signalsIn (signalsOf b) k ≤ w = omega arith in
-      sound-zero b facts k h w v (signals-used k w some own) ∙ sym (signal-past (listIn b) k w high))
-      (below-or-past w 123)
+      let past = subst (λ (m : ℕ). usedIn m k ≤ w) (sym (list-count b)) (omega arith) in
+      sound-zeros b sound k h w (omega arith) v ∙ sym (body-zero (settingsIn b) (listIn b) list-in-range k w past))
 
-  accepted-body : (k w : ℕ) → k < blocksIn b → w < 127 → inBlock b k w ≡ bodyWord (settingsIn b) (listIn b) k w
-  accepted-body k w h v =
-      ⊎-elim
-      (λ e.
-      let first : k ≡ 0 = e in
-      ap (λ (x : ℕ). inBlock b x w) first
-      ∙ accepted-settings (omega arith) w v
-      ∙ ap (λ (m : ℕ). getD (settingsBlock (settingsIn b) m) w 0) (sym (list-signals b))
-      ∙ sym (body-settings (settingsIn b) (listIn b) k w first))
-      (λ some. accepted-signals k some h w v ∙ sym (body-signals (settingsIn b) (listIn b) k w some))
-      (eq-zero-or-pos k)
-
-  accepted-word : (k w : ℕ) → k < blocksIn b → w < 128 → inBlock b k w ≡ blockWord (settingsIn b) (listIn b) k w
-  unfolding checkOf
-  accepted-word k w h v =
-      ⊎-elim (λ low. accepted-body k w h low ∙ sym (block-body (settingsIn b) (listIn b) k w low))
+  word : (k : ℕ) → k < blocksIn b → (w : ℕ) → w < 128 → inBlock b k w ≡ blockWord (settingsIn b) (listIn b) k w
+  word k h w v =
+      dite (decLt w 127) (λ low. body k h w low ∙ sym (block-body (settingsIn b) (listIn b) k w low))
       (λ high.
       let last : w ≡ 127 = omega arith in
       ap (inBlock b k) last
-      ∙ sound-check b facts k h
-      ∙ ap (λ (x : ℕ). (x + 1) % 2 ^ 32)
-      (sum-same (inBlock b k) (bodyWord (settingsIn b) (listIn b) k) 127 (λ u l. accepted-body k u h l))
+      ∙ sound-check b sound k h
+      ∙ check-same (inBlock b k) (bodyWord (settingsIn b) (listIn b) k) (body k h)
       ∙ sym (ap (blockWord (settingsIn b) (listIn b) k) last ∙ block-check (settingsIn b) (listIn b) k))
-      (below-or-past w 127)
 
-  -- byte for byte, the book is what writing makes of what was read
-  pub accepted-book : AllBelow 256 b → b ≡ bookOf (settingsIn b) (listIn b)
+  -- byte for byte, the book is what writing makes of what is read
+  pub sound-written : AllBelow 256 b → bookOf (settingsIn b) (listIn b) ≡ b
   unfolding bookOf bookWord
-  accepted-book bytes =
-      let blocks : blocksIn b ≡ blocksFor (length (listIn b) / 5) = sound-count b facts .1 ∙ ap blocksFor (sym (list-signals b)) in
-      let whole : length b ≡ 4 * (128 * blocksFor (length (listIn b) / 5)) = omega (arith, facts .whole) in
-      bytes-of-words b bytes (bookWord (settingsIn b) (listIn b)) (128 * blocksFor (length (listIn b) / 5)) whole
+  sound-written bytes =
+      let blocks = sound-count b sound .1 ∙ ap blocksFor (sym (list-count b)) in
+      let whole : length b ≡ 4 * (128 * blocksFor (count (listIn b))) = omega (arith, sound-length b sound .whole) in
+      sym (bytes-of-words b bytes (bookWord (settingsIn b) (listIn b)) (128 * blocksFor (count (listIn b))) whole
       (λ p h.
       let place : p ≡ 128 * (p / 128) + p % 128 = omega arith in
-      ap (wordAt b) place ∙ accepted-word (p / 128) (p % 128) (omega arith) (omega arith))
+      ap (wordAt b) place ∙ word (p / 128) (omega arith) (p % 128) (omega arith)))

@@ -1,11 +1,11 @@
 pub mod RunLaws
 pub mod WordLaws
-pub mod TestLaws
+pub mod BlockLaws
 pub mod SoundLaws
-pub mod AnswerLaws
 pub mod WrittenLaws
 pub mod AcceptedLaws
-pub mod RoundTrips
 pub mod ReadLaws
+pub mod WriteLaws
+pub mod RoundTrips
 pub mod PartLaws
 pub mod OneOutcome

@@ -1,45 +1,59 @@
--- The part of a sound book for signal i holds the signal: twenty bytes, and its five words are the signal's five words of the list.
+-- The part of a book for signal i: every book has it or has not; it lies in the book and holds the signal's words.
+-- Assumes nothing.
 use mathlib.Core.Path.{_≡_, sym, ap, _∙_}
-use mathlib.Core.Bool.{true}
 use mathlib.Core.List.{List}
-use Prim.Native.Nat.{ℕ, _+_, _-_, _*_, _/_, _%_, _<_}
+use mathlib.Core.Logic.{_⊎_, inl, inr, ⊎-elim, dite, Dec·and}
+use Prim.Native.Nat.{ℕ, _+_, _-_, _*_, _/_, _%_, _≤_, _<_}
+use native.Mathlib.Decide.{decLe}
 use native.Mathlib.Omega.{arith}
 use lib.ListN.{length, getD, take, drop, length-take, length-drop}
+use Rattle.terms.specs.Lists.{signalSize, entryStart}
 use Rattle.book.specs.Words.{wordAt}
+use Rattle.book.specs.Blocks.{perBlock, sectionSize}
 use Rattle.book.specs.Reading.{signalsOf, listWord, listIn}
+use Rattle.book.specs.Part.{HasSignal, partSize, partStart}
 use Rattle.book.specs.Outcomes.{PartOutcome}
-use Rattle.book.specs.Part.{hasSignal, signalAt}
 use Rattle.book.proofs.WordLaws.{word-of-part}
-use Rattle.book.proofs.AnswerLaws.{part-some, signal-range, signal-inside}
+use Rattle.book.proofs.SoundLaws.{sound-length, sound-count, sound-or-not}
 use Rattle.book.proofs.AcceptedLaws.{list-at}
 
+pub has-or-not : (b : List ℕ) (i : ℕ) → HasSignal b i ⊎ (HasSignal b i → ⊥)
+has-or-not b i =
+    ⊎-elim
+    (λ sound. dite (Dec·and (decLe 1 i) (decLe i (signalsOf b))) (λ h. inl (sound, h)) (λ n. inr (λ has. n (has .1))))
+    (λ unsound. inr (λ has. unsound (has .0))) (sound-or-not b)
+
+pub part-inside : (b : List ℕ) (i : ℕ) → HasSignal b i → partStart i + partSize ≤ length b
+part-inside b i has =
+    let right = sound-length b (has .0) in
+    let count = sound-count b (has .0) in
+    omega (arith, right .whole, has .1)
+
 -- the word of a book at which word j of the n-th signal stands, counted from 0
-signal-word-at : (n j : ℕ) → j < 5
-    → 128 * (1 + n / 24) + 3 + 5 * (n % 24) + j ≡ 128 * (1 + (5 * n + j) / 120) + (3 + (5 * n + j) % 120)
+signal-word-at : (n j : ℕ) → j < signalSize
+    → 128 * (1 + n / perBlock) + 3 + signalSize * (n % perBlock) + j
+    ≡ 128 * (1 + (signalSize * n + j) / sectionSize) + (3 + (signalSize * n + j) % sectionSize)
 signal-word-at n j h =
-    let block : (5 * n + j) / 120 ≡ n / 24 = omega arith in
-    let word : (5 * n + j) % 120 ≡ 5 * (n % 24) + j = omega arith in
+    let block : (signalSize * n + j) / sectionSize ≡ n / perBlock = omega arith in
+    let word : (signalSize * n + j) % sectionSize ≡ signalSize * (n % perBlock) + j = omega arith in
     omega arith
 
-module _ (b : List ℕ) (i : ℕ) (there : hasSignal b i ≡ true) where
-  part-length : length (take 20 (drop (signalAt i) b)) ≡ 20
-  part-length = omega (arith, length-take 20 (drop (signalAt i) b), length-drop (signalAt i) b, signal-inside b i there)
-
-  part-words : (j : ℕ) → j < 5 → wordAt (take 20 (drop (signalAt i) b)) j ≡ getD (listIn b) (5 * (i - 1) + j) 0
-  unfolding listWord
-  part-words j h =
-      let n : ℕ = i - 1 in
-      let range = signal-range b i there in
-      let start : signalAt i ≡ 4 * (128 * (1 + (i - 1) / 24) + 3 + 5 * ((i - 1) % 24)) = omega arith in
-      let listed : 5 * (i - 1) + j < 5 * signalsOf b = omega (arith, range .1, range .2) in
-      word-of-part b (signalAt i) 20 (128 * (1 + (i - 1) / 24) + 3 + 5 * ((i - 1) % 24)) j start (omega arith)
-      ∙ ap (wordAt b) (signal-word-at (i - 1) j h)
-      ∙ sym (list-at b (5 * (i - 1) + j) listed)
-
 -- the part that the contract gives for signal i of a sound book: twenty bytes, the signal's five words
-pub part-holds : {b r : List ℕ} {place start : ℕ × ℕ} {i : ℕ} → PartOutcome b place i r start → hasSignal b i ≡ true
-    → (length r ≡ 20) × ((j : ℕ) → j < 5 → wordAt r j ≡ getD (listIn b) (5 * (i - 1) + j) 0)
-part-holds {b} {r} {i = i} outcome there =
-    let some = part-some b i there in
-    let part : r ≡ take 20 (drop (signalAt i) b) = outcome .holds ∙ (λ k. take (some .1 k) (drop (some .0 k) b)) in
-    (ap length part ∙ part-length b i there, λ j h. ap (λ (p : List ℕ). wordAt p j) part ∙ part-words b i there j h)
+pub part-holds : {b r : List ℕ} {place start : ℕ × ℕ} {i : ℕ} → PartOutcome b place i r start → HasSignal b i
+    → (length r ≡ partSize) × ((j : ℕ) → j < signalSize → wordAt r j ≡ getD (listIn b) (entryStart signalSize i + j) 0)
+unfolding listWord
+part-holds {b} {i = i} outcome has =
+    let part = outcome .has has .0 in
+    let n : ℕ = i - 1 in
+    let q : ℕ = 128 * (1 + (i - 1) / perBlock) + 3 + signalSize * ((i - 1) % perBlock) in
+    let start : partStart i ≡ 4 * q = omega arith in
+    let size : length (take partSize (drop (partStart i) b)) ≡ partSize =
+    omega (arith, length-take partSize (drop (partStart i) b), length-drop (partStart i) b, part-inside b i has) in (
+      ap length part ∙ size,
+      λ j h.
+          let listed : signalSize * (i - 1) + j < signalSize * signalsOf b = omega (arith, has .1) in
+          ap (λ (p : List ℕ). wordAt p j) part
+          ∙ word-of-part b (partStart i) partSize q j start (omega arith)
+          ∙ ap (wordAt b) (signal-word-at (i - 1) j h)
+          ∙ sym (list-at b (signalSize * (i - 1) + j) listed),
+    )

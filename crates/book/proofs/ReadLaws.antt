@@ -1,72 +1,124 @@
--- What a caller of `read` goes by: with 3,000 words lent the answer is that of 1 to 5; what is given when done, and what is kept when refused.
-use mathlib.Core.Path.{_≡_, refl, sym, ap, _∙_}
-use mathlib.Core.Bool.{Bool, true, false}
-use mathlib.Core.List.{List}
-use Prim.Native.Nat.{ℕ, _*_, _≤_}
+-- Laws of reading: one for each way out, by which every book has an outcome; and what a caller learns from the answer.
+-- Assumes nothing.
+use mathlib.Core.Path.{_≡_, refl, ap, _∙_}
+use mathlib.Core.List.{List, [], _∷_, _++_}
+use mathlib.Core.Logic.{inl, inr, ⊎-elim, dite}
+use Prim.Native.Nat.{ℕ, _*_, _≤_, _<_}
+use native.Mathlib.Nat.{lt-of-not-le}
+use native.Mathlib.Decide.{ℕ-discrete, decLe}
 use native.Mathlib.Omega.{arith}
-use lib.ListN.{length, take}
-use borrow.Author.Tests.{le-leb, eq-eqb, ne-eqb}
-use Rattle.terms.specs.declared.Answer.the-variants.{Done}
-use Rattle.terms.specs.Answers.{numberOf}
+use lib.ListN.{length, take, drop}
+use lib.Seq.{take-at}
+use Rattle.laws.specs.Rows.{Row, Hold}
+use Rattle.laws.proofs.RowLaws.{hold-join, hold-front, hold-rest, zero-holds, holds-zero}
+use Rattle.laws.proofs.RowLaws.{pass, refused-front, same-front}
+use Rattle.terms.specs.declared.Settings.{Settings}
+use Rattle.terms.specs.declared.Answer.the-variants.{Room}
+use Rattle.terms.specs.Lists.{signalSize}
+use Rattle.terms.specs.Answers.{numberOf, placeOf, Answers, roomRow}
 use Rattle.book.specs.declared.Reading.{Reading}
-use Rattle.book.specs.Reading.{signalsOf, judged, sound, readAnswer, settingsIn, fiveZeros, listIn}
-use Rattle.book.specs.Outcomes.{ReadOutcome}
-use Rattle.book.proofs.SoundLaws.{sound-facts, sound-count, facts-judged}
-use Rattle.book.proofs.AnswerLaws.{read-refusal}
-use Rattle.book.proofs.RoundTrips.{read-facts, read-values}
+use Rattle.book.specs.Reading.{signalsOf, bookRows, readingRows, settingsIn, fiveZeros, listIn}
+use Rattle.book.specs.Outcomes.{ReadOutcome, SettingsOutcome}
+use Rattle.book.proofs.SoundLaws.{sound-count, book-numbered, reading-numbered, judged-sound}
+use Rattle.book.proofs.SoundLaws.{book-answer, sound-or-not}
+use Rattle.book.proofs.AcceptedLaws.{list-length}
 
--- 600 signals of five words: a list of that length is never too short
-pub room-for-all : (b : List ℕ) (room : ℕ) → 3000 ≤ room → readAnswer b room ≡ judged b
-unfolding readAnswer
-room-for-all b room enough = go (sound b) refl
-  where
-    go : (t : Bool) → sound b ≡ t → readAnswer b room ≡ judged b
-    go true h =
-        let facts = sound-facts b h in
-        let count = sound-count b facts in
-        let fits : 5 * signalsOf b ≤ room = omega (arith, count .0) in
-        simp (h, le-leb (5 * signalsOf b) room fits) (sym (facts-judged b facts))
-    go false h = simp h
+-- what is asked behind a book's own rows, and the place where all is done
+abbrev room : (b lent : List ℕ) → List Row
+room b lent = roomRow (signalSize * signalsOf b) (length lent) ∷ []
 
--- what reading gives when it is done
-pub record ReadGives (b lent : List ℕ) (r : Reading) (exit : List ℕ) (m : ℕ) : Type 0 where
-  pub few : m ≤ 600
-  pub enough : 5 * m ≤ length lent
+abbrev signals : List ℕ → ℕ → Type 0
+signals b p = p ≡ signalsOf b
+
+-- ---- each way out
+
+module _ (b lent : List ℕ) (r : Reading) where
+  pub read-refused : Answers (bookRows b) (signals b) (r .answer) → (numberOf (r .answer) ≡ 0 → ⊥)
+      → r .settings ≡ fiveZeros → ReadOutcome b lent r lent
+  read-refused f n zeros =
+      record {
+        answer = refused-front (room b lent) (signals b) _ _ (bookRows b) (signals b) (book-numbered b) n f;
+        done = λ z. absurd (n z);
+        refused = λ k. (zeros, refl);
+      }
+
+  pub read-short : Hold (bookRows b) → length lent < signalSize * signalsOf b
+      → r .answer ≡ Room (signalSize * signalsOf b) → r .settings ≡ fiveZeros → ReadOutcome b lent r lent
+  read-short sound short is zeros =
+      let number = ap numberOf is in
+      let place = ap placeOf is in
+      record {
+        answer = pass (room b lent) (signals b) _ _ (bookRows b) sound (inl ((λ h. omega arith), number, place));
+        done = λ z. absurd (omega arith);
+        refused = λ k. (zeros, refl);
+      }
+
+  pub read-done : {exit : List ℕ} → Hold (bookRows b) → signalSize * signalsOf b ≤ length lent
+      → numberOf (r .answer) ≡ 0 → placeOf (r .answer) ≡ signalsOf b → r .settings ≡ settingsIn b
+      → exit ≡ listIn b ++ drop (signalSize * signalsOf b) lent → ReadOutcome b lent r exit
+  read-done sound enough number place settings list =
+      record {
+        answer = pass (room b lent) (signals b) _ _ (bookRows b) sound (inr (enough, (number, place)));
+        done = λ z. (settings, list);
+        refused = λ n. absurd (n number);
+      }
+
+pub read-exists : (b lent : List ℕ) → (r : Reading) × (exit : List ℕ) × ReadOutcome b lent r exit
+read-exists b lent =
+    let (a, f) = book-answer b in
+    dite (ℕ-discrete (numberOf a) 0)
+    (λ z.
+    let (sound, place) = judged-sound b a f z in
+    dite (decLe (signalSize * signalsOf b) (length lent))
+    (λ enough.
+    let r : Reading = record { answer = a; settings = settingsIn b } in
+    (r, listIn b ++ drop (signalSize * signalsOf b) lent, read-done b lent r sound enough z place refl refl))
+    (λ short.
+    let r : Reading = record { answer = Room (signalSize * signalsOf b); settings = fiveZeros } in
+    (r, lent, read-short b lent r sound (lt-of-not-le short) refl refl)))
+    (λ n.
+    let r : Reading = record { answer = a; settings = fiveZeros } in
+    (r, lent, read-refused b lent r f n refl))
+
+pub settings-exists : (b : List ℕ) → (s : Settings) × SettingsOutcome b s
+settings-exists b =
+    ⊎-elim (λ h. (settingsIn b, record { sound = λ k. refl; unsound = λ n. absurd (n h) }))
+    (λ n. (fiveZeros, record { sound = λ h. absurd (n h); unsound = λ k. refl })) (sound-or-not b)
+
+-- ---- what a caller learns
+
+pub record ReadGives (b lent : List ℕ) (r : Reading) (exit : List ℕ) : Type 0 where
+  pub sound : Hold (bookRows b)
+  pub signals : placeOf (r .answer) ≡ signalsOf b
+  pub enough : signalSize * signalsOf b ≤ length lent
   pub settings : r .settings ≡ settingsIn b
-  pub words : take (5 * m) exit ≡ listIn b
+  pub words : take (signalSize * signalsOf b) exit ≡ listIn b
 
-pub read-gives : {b lent exit : List ℕ} {r : Reading} {m : ℕ} → ReadOutcome b lent r exit → r .answer ≡ Done m → ReadGives b lent r exit m
-read-gives {b} {lent} {m = m} read accepted =
-    let done : readAnswer b (length lent) ≡ Done m = sym (read .answer) ∙ accepted in
-    let a = read-facts b (length lent) m done in
-    let count = sound-count b (sound-facts b (a .sound)) in
-    let values = read-values b lent m done in
-    record {
-      few = omega (arith, count .0, a .signals);
-      enough = omega (arith, a .enough, a .signals);
-      settings = read .settings ∙ values .0;
-      words = ap (take (5 * m)) (read .list) ∙ values .1;
-    }
+module _ {b lent exit : List ℕ} {r : Reading} (read : ReadOutcome b lent r exit) where
+  pub read-gives : numberOf (r .answer) ≡ 0 → ReadGives b lent r exit
+  read-gives z =
+      let numbered = reading-numbered b (length lent) in
+      let (rows, place) = zero-holds (signals b) _ _ (readingRows b (length lent)) numbered (read .answer) z in
+      let given = read .done z in
+      record {
+        sound = hold-front (bookRows b) (room b lent) rows;
+        signals = place;
+        enough = hold-rest (bookRows b) (room b lent) rows .0;
+        settings = given .0;
+        words = ap (take (signalSize * signalsOf b)) (given .1) ∙ take-at (listIn b) _ _ (list-length b);
+      }
 
--- what it gives when it refuses: five zeros, and the list as it was
-pub read-keeps : {b lent exit : List ℕ} {r : Reading} → ReadOutcome b lent r exit → (numberOf (r .answer) ≡ 0 → ⊥)
-    → (r .settings ≡ fiveZeros) × (exit ≡ lent)
-read-keeps {b} {lent} {r = r} read refused =
-    let kept = read-refusal b lent (r .answer) (read .answer) (ne-eqb (numberOf (r .answer)) 0 refused) in
-    (read .settings ∙ sym (kept .0), read .list ∙ sym (kept .1))
+  -- a sound book is read where there is room
+  pub sound-read : Hold (bookRows b) → signalSize * signalsOf b ≤ length lent
+      → (numberOf (r .answer) ≡ 0) × (placeOf (r .answer) ≡ signalsOf b)
+  sound-read sound enough =
+      let rows = hold-join (bookRows b) (room b lent) sound (enough, tt) in
+      holds-zero (signals b) _ _ (readingRows b (length lent)) rows (read .answer)
 
--- with 3,000 words lent: an answer with number 0 is that of a sound book, with its signals; any other is that of 1 to 5
-pub read-sound : {b lent exit : List ℕ} {r : Reading} → 3000 ≤ length lent → ReadOutcome b lent r exit → numberOf (r .answer) ≡ 0
-    → (sound b ≡ true) × (r .answer ≡ Done (signalsOf b))
-unfolding sound
-read-sound {b} {lent} enough read z =
-    let given = read .answer ∙ room-for-all b (length lent) enough in
-    let whole = eq-eqb (numberOf (judged b)) 0 (sym (ap numberOf given) ∙ z) in
-    (whole, given ∙ facts-judged b (sound-facts b whole))
+  -- so with room for 600 signals a refusal is one by 1 to 5, whatever is asked after
+  module _ (enough : signalSize * 600 ≤ length lent) (refused : numberOf (r .answer) ≡ 0 → ⊥) where
+    pub read-unsound : Hold (bookRows b) → ⊥
+    read-unsound sound = refused (sound-read sound (omega (arith, sound-count b sound .0)) .0)
 
-pub read-unsound : {b lent exit : List ℕ} {r : Reading} → 3000 ≤ length lent → ReadOutcome b lent r exit → (numberOf (r .answer) ≡ 0 → ⊥)
-    → (sound b ≡ false) × (r .answer ≡ judged b)
-unfolding sound
-read-unsound {b} {lent} enough read n =
-    let given = read .answer ∙ room-for-all b (length lent) enough in
-    (ne-eqb (numberOf (judged b)) 0 (λ z. n (ap numberOf given ∙ z)), given)
+    pub read-refuses : (rest : List Row) (done : ℕ → Type 0) → Answers (bookRows b ++ rest) done (r .answer)
+    read-refuses rest done = same-front (room b lent) (signals b) _ _ (bookRows b) rest done read-unsound (read .answer)

@@ -1,123 +1,137 @@
--- What a sound book is, in facts of its words: the answer by 1 to 5 is done exactly where they hold.
-use mathlib.Core.Path.{_≡_, refl}
-use mathlib.Core.Bool.{Bool, true, false, _&&_, false≢true}
-use mathlib.Core.List.{List}
-use Prim.Native.Nat.{ℕ, _%_, _≤_, _<_}
+-- Laws of a sound book: what its rows say of each block, what an answer by them tells, and that every book has an
+-- answer, so that it is sound or is not.
+-- Assumes nothing.
+use mathlib.Core.Path.{_≡_, refl, sym}
+use mathlib.Core.List.{List, [], _∷_}
+use mathlib.Core.Logic.{_⊎_, inl, inr, ⊎-elim, dite, Dec·and}
+use Prim.Native.Nat.{ℕ, zero, suc, _+_, _-_, _%_, _≤_, _<_, _*_}
+use native.Mathlib.Decide.{ℕ-discrete, decLe, decLt, map-dec}
 use native.Mathlib.Omega.{arith}
+use lib.Dec.{lit≤}
 use lib.ListN.{length}
-use lib.Dec.{leb, ltb, eqb}
-use borrow.Author.Tests.{eq-eqb, ne-eqb, eqb-true, leb-true, ltb-true, lt-ltb, le-leb, le-ltb}
+use Rattle.laws.specs.Rows.{Hold}
+use Rattle.laws.proofs.RowLaws.{numbered-join, single-join, Numbered, Single, zero-holds, not-zero-fails}
+use Rattle.laws.proofs.LowestLaws.{lowest-one, lowest-not-each}
+use Rattle.laws.proofs.DecidedLaws.{Decided, first-row, decided-hold, lowest-or-each}
 use Rattle.terms.specs.declared.Answer.{Answer}
-use Rattle.terms.specs.declared.Answer.the-variants.{Done, Check, Kind, Count, Zero}
-use Rattle.terms.specs.Answers.{numberOf}
-use Rattle.book.specs.declared.Test.{Test}
-use Rattle.book.specs.Words.{firstFailing, checkOf}
-use Rattle.book.specs.Blocks.{kindOf, signalsIn, blocksFor, unless}
-use Rattle.book.specs.Reading.{blocksIn, inBlock, signalsOf, usedIn, zeroOrUsed, right, firstWrong, passes, lengthRight, judged, sound}
-use Rattle.book.proofs.RunLaws.{first-is, first-all}
+use Rattle.terms.specs.declared.Answer.the-variants.{Length, Check, Kind, Count, Zero}
+use Rattle.terms.specs.Lists.{signalSize}
+use Rattle.terms.specs.Answers.{numberOf, placeOf, Answers, roomRow}
+use Rattle.terms.proofs.AnswersLaws.{Answerable, answer-exists}
+use Rattle.book.specs.Blocks.{blocksFor}
+use Rattle.book.specs.Reading.{blocksIn, inBlock, signalsOf, usedIn, EachBlock, FirstBlock, bookRows, readingRows}
+use Rattle.book.specs.Reading.{LengthRight, CheckRight, KindRight, CountRight, ZerosRight}
+use Rattle.book.proofs.BlockLaws.{numbered-each, lowest-numbered}
 
-pub both-true : (a b : Bool) → (a && b) ≡ true → (a ≡ true) × (b ≡ true)
-both-true true b e = (refl, e)
-both-true false b e = absurd (false≢true e)
+-- ---- what the rows say
 
--- a sound book as facts of its length and of every block
-pub record SoundBook (b : List ℕ) : Type 0 where
-  pub nonempty : 0 < length b
-  pub whole : length b % 512 ≡ 0
-  pub few : blocksIn b ≤ 26
-  pub test : (t : Test) (k : ℕ) → k < blocksIn b → right b t k ≡ true
+module _ (b : List ℕ) (sound : Hold (bookRows b)) where
+  pub sound-length : LengthRight b
+  sound-length = sound .0
 
--- what holds of an answer and not of its first refusal holds of the rest, and the first test was passed
-pub unless-passed : (P : Answer → Type 0) (t : Bool) (a rest : Answer) → P (unless t a rest) → (P a → ⊥) → (t ≡ true) × P rest
-unless-passed P true a rest p h = (refl, p)
-unless-passed P false a rest p h = absurd (h p)
+  module _ (k : ℕ) (h : k < blocksIn b) where
+    pub sound-check : CheckRight b k
+    sound-check = numbered-each (blocksIn b) (CheckRight b) (sound .1 .0) k h
 
-passes-all : (b : List ℕ) (t : Test) → passes b t ≡ true → (k : ℕ) → k < blocksIn b → right b t k ≡ true
-unfolding passes firstWrong
-passes-all b t e = first-all (right b t) (blocksIn b) (eqb-true (firstWrong b t) (blocksIn b) e)
+    pub sound-kind : KindRight b k
+    sound-kind = numbered-each (blocksIn b) (KindRight b) (sound .1 .1 .0) k h
 
-all-passes : (b : List ℕ) (t : Test) → ((k : ℕ) → k < blocksIn b → right b t k ≡ true) → passes b t ≡ true
-unfolding passes firstWrong
-all-passes b t all =
-    eq-eqb (firstWrong b t) (blocksIn b)
-    (first-is (right b t) (blocksIn b) (blocksIn b) (omega arith) all (λ h. absurd (omega arith)))
+    pub sound-share : CountRight b k
+    sound-share = numbered-each (blocksIn b) (CountRight b) (sound .1 .1 .1 .0) k h
 
-pub length-facts : (b : List ℕ) → lengthRight b ≡ true → (0 < length b) × (length b % 512 ≡ 0) × (blocksIn b ≤ 26)
-unfolding lengthRight
-length-facts b e =
-    let first = both-true (ltb 0 (length b)) (eqb (length b % 512) 0 && leb (blocksIn b) 26) e in
-    let then = both-true (eqb (length b % 512) 0) (leb (blocksIn b) 26) (first .1) in
-    (ltb-true 0 (length b) (first .0), eqb-true (length b % 512) 0 (then .0), leb-true (blocksIn b) 26 (then .1))
+    pub sound-zeros : ZerosRight b k
+    sound-zeros = numbered-each (blocksIn b) (ZerosRight b) (sound .1 .1 .1 .1 .0) k h
 
-pub sound-facts : (b : List ℕ) → sound b ≡ true → SoundBook b
-unfolding sound judged
-sound-facts b e =
-    let P : Answer → Type 0 = λ a. eqb (numberOf a) 0 ≡ true in
-    let h₁ = unless-passed P _ _ _ e false≢true in
-    let facts = length-facts b (h₁ .0) in
-    let h₂ = unless-passed P _ _ _ (h₁ .1) false≢true in
-    let h₃ = unless-passed P _ _ _ (h₂ .1) false≢true in
-    let h₄ = unless-passed P _ _ _ (h₃ .1) false≢true in
-    let h₅ = unless-passed P _ _ _ (h₄ .1) false≢true in
-    record {
-      nonempty = facts .0;
-      whole = facts .1;
-      few = facts .2;
-      test = elim [
-        | Test.Check ↦ passes-all b Test.Check (h₂ .0)
-        | Test.Kind ↦ passes-all b Test.Kind (h₃ .0)
-        | Test.Count ↦ passes-all b Test.Count (h₄ .0)
-        | Test.Zero ↦ passes-all b Test.Zero (h₅ .0)
-      ];
-    }
+  pub sound-count : (signalsOf b ≤ 600) × (blocksIn b ≡ blocksFor (signalsOf b))
+  sound-count = sound-share 0 (omega (arith, sound-length .some, sound-length .whole))
 
--- the count that block 0 passes
-pub sound-count : (b : List ℕ) → SoundBook b → (signalsOf b ≤ 600) × (blocksIn b ≡ blocksFor (signalsOf b))
-unfolding right
-sound-count b h =
-    let some : 0 < blocksIn b = omega (arith, h .nonempty, h .whole) in
-    let both = both-true _ _ (h .test Test.Count 0 some) in
-    (leb-true (signalsOf b) 600 (both .0), eqb-true (blocksIn b) (blocksFor (signalsOf b)) (both .1))
+-- ---- what an answer tells
 
-pub facts-judged : (b : List ℕ) → SoundBook b → judged b ≡ Done (signalsOf b)
-unfolding judged lengthRight
-facts-judged b h =
-    simp (
-      lt-ltb 0 (length b) (h .nonempty),
-      eq-eqb (length b % 512) 0 (h .whole),
-      le-leb (blocksIn b) 26 (h .few),
-      all-passes b Test.Check (h .test Test.Check),
-      all-passes b Test.Kind (h .test Test.Kind),
-      all-passes b Test.Count (h .test Test.Count),
-      all-passes b Test.Zero (h .test Test.Zero),
-    )
+first-one : (b : List ℕ) (P : ℕ → Type 0) (p q : ℕ) → FirstBlock b P p → FirstBlock b P q → p ≡ q
+first-one b P p q k l =
+    let same = lowest-one (blocksIn b) (λ i. P (i - 1)) (p + 1) (q + 1) k l in
+    omega arith
 
-pub facts-sound : (b : List ℕ) → SoundBook b → sound b ≡ true
-unfolding sound
-facts-sound b h = rw (facts-judged b h)
+pub book-numbered : (b : List ℕ) → Numbered (bookRows b)
+book-numbered b = (lit≤ tt, (lit≤ tt, (lit≤ tt, (lit≤ tt, (lit≤ tt, tt)))))
 
--- what the tests say of the words of each block
-module _ (b : List ℕ) (facts : SoundBook b) (k : ℕ) (h : k < blocksIn b) where
-  pub sound-check : inBlock b k 127 ≡ checkOf (inBlock b k)
-  unfolding right
-  sound-check = eqb-true (inBlock b k 127) (checkOf (inBlock b k)) (facts .test Test.Check k h)
+pub book-single : (b : List ℕ) → Single (bookRows b)
+book-single b =
+    let zero : (p q : ℕ) → p ≡ 0 → q ≡ 0 → p ≡ q = λ p q d e. omega arith in
+    (zero, (first-one b (CheckRight b), (first-one b (KindRight b), (zero, (first-one b (ZerosRight b), tt)))))
 
-  pub sound-number : inBlock b k 0 ≡ k
-  unfolding right
-  sound-number = eqb-true (inBlock b k 0) k (both-true (eqb (inBlock b k 0) k) (eqb (inBlock b k 1) (kindOf k)) (facts .test Test.Kind k h) .0)
+module _ (b : List ℕ) (lent : ℕ) where
+  pub reading-numbered : Numbered (readingRows b lent)
+  reading-numbered = numbered-join (bookRows b) (roomRow (signalSize * signalsOf b) lent ∷ []) (book-numbered b) (lit≤ tt, tt)
 
-  pub sound-kind : inBlock b k 1 ≡ kindOf k
-  unfolding right
-  sound-kind = eqb-true (inBlock b k 1) (kindOf k) (both-true (eqb (inBlock b k 0) k) (eqb (inBlock b k 1) (kindOf k)) (facts .test Test.Kind k h) .1)
+  pub reading-single : Single (readingRows b lent)
+  reading-single = single-join (bookRows b) (roomRow (signalSize * signalsOf b) lent ∷ []) (book-single b) ((λ p q d e. omega arith), tt)
 
-  pub sound-share : 0 < k → inBlock b k 2 ≡ signalsIn (signalsOf b) k
-  unfolding right
-  sound-share some =
-      eqb-true (inBlock b k 2) (signalsIn (signalsOf b) k)
-      (simp (ne-eqb k 0 (λ e. omega arith)) at (facts .test Test.Count k h))
+module _ (b : List ℕ) (a : Answer) (f : Answers (bookRows b) (λ p. p ≡ signalsOf b) a) where
+  pub judged-sound : numberOf a ≡ 0 → Hold (bookRows b) × (placeOf a ≡ signalsOf b)
+  judged-sound = zero-holds (λ p. p ≡ signalsOf b) (numberOf a) (placeOf a) (bookRows b) (book-numbered b) f
 
-  pub sound-zero : (w : ℕ) → w < 127 → usedIn (signalsOf b) k ≤ w → inBlock b k w ≡ 0
-  unfolding right zeroOrUsed
-  sound-zero w v used =
-      let all = first-all (zeroOrUsed b k) 127 (eqb-true (firstFailing (zeroOrUsed b k) 127) 127 (facts .test Test.Zero k h)) w v in
-      eqb-true (inBlock b k w) 0 (simp (le-ltb w (usedIn (signalsOf b) k) used) at all)
+  pub judged-unsound : (numberOf a ≡ 0 → ⊥) → Hold (bookRows b) → ⊥
+  judged-unsound = not-zero-fails (λ p. p ≡ signalsOf b) (numberOf a) (placeOf a) (bookRows b) f
+
+-- ---- every book has an answer
+
+abbrev Tried : List ℕ → (ℕ → Type 0) → Type 0
+Tried b P = EachBlock b P ⊎ ((p : ℕ) × FirstBlock b P p)
+
+tried : (b : List ℕ) (P : ℕ → Type 0) → ((k : ℕ) → Dec (P k)) → Tried b P
+tried b P decided =
+    ⊎-elim inl (λ f. inr (f .0 - 1, lowest-numbered _ _ (f .0) (f .1)))
+    (lowest-or-each (blocksIn b) (λ i. P (i - 1)) (λ i h. decided (i - 1)))
+
+module _ (b : List ℕ) where
+  length-or-not : Dec (LengthRight b)
+  length-or-not =
+      map-dec (λ h. record { some = h .0; whole = h .1 .0; few = h .1 .1 }) (λ r. (r .some, (r .whole, r .few)))
+      (Dec·and (decLt 0 (length b)) (Dec·and (ℕ-discrete (length b % 512) 0) (decLe (blocksIn b) 26)))
+
+  share-or-not : (k : ℕ) → Dec (CountRight b k)
+  share-or-not zero = Dec·and (decLe (signalsOf b) 600) (ℕ-discrete (blocksIn b) (blocksFor (signalsOf b)))
+  share-or-not (suc k) = ℕ-discrete _ _
+
+  zeros-or-not : (k : ℕ) → Dec (ZerosRight b k)
+  zeros-or-not k =
+      ⊎-elim (λ each. yes (λ w used h. numbered-each 127 Right each w h used))
+      (λ f. no (λ zeros. f .1 .fails (λ used. zeros (f .0 - 1) used (omega (arith, f .1 .within)))))
+      (lowest-or-each 127 (λ i. Right (i - 1)) (λ i h. word (i - 1)))
+    where
+      Right : ℕ → Type 0
+      Right w = usedIn (signalsOf b) k ≤ w → inBlock b k w ≡ 0
+
+      word : (w : ℕ) → Dec (Right w)
+      word w =
+          dite (decLe (usedIn (signalsOf b) k) w) (λ used. map-dec (λ z u. z) (λ right. right used) (ℕ-discrete (inBlock b k w) 0))
+          (λ n. yes (λ used. absurd (n used)))
+
+  pub book-decided : Decided (bookRows b)
+  book-decided =
+      judged length-or-not (tried b (CheckRight b) (λ k. ℕ-discrete _ _)) (tried b (KindRight b) (λ k. Dec·and (ℕ-discrete _ _) (ℕ-discrete _ _)))
+      (tried b (CountRight b) share-or-not) (tried b (ZerosRight b) zeros-or-not)
+    where
+      judged : Dec (LengthRight b) → Tried b (CheckRight b) → Tried b (KindRight b) → Tried b (CountRight b) → Tried b (ZerosRight b)
+          → Decided (bookRows b)
+      judged (no l) c k n z = inr (l, (0, refl))
+      judged (yes l) (inr (p, f)) k n z = inl (l, inr (lowest-not-each _ _ _ f, (p, f)))
+      judged (yes l) (inl c) (inr (p, f)) n z = inl (l, inl (c, inr (lowest-not-each _ _ _ f, (p, f))))
+      judged (yes l) (inl c) (inl k) (inr (p, f)) z = inl (l, inl (c, inl (k, inr (lowest-not-each _ _ _ f, (0, refl)))))
+      judged (yes l) (inl c) (inl k) (inl n) (inr (p, f)) = inl (l, inl (c, inl (k, inl (n, inr (lowest-not-each _ _ _ f, (p, f))))))
+      judged (yes l) (inl c) (inl k) (inl n) (inl z) = inl (l, inl (c, inl (k, inl (n, inl (z, tt)))))
+
+  pub book-answerable : Answerable (bookRows b)
+  book-answerable = (
+    (λ p e. (Length, refl, sym e)),
+    ((λ p f. (Check p, refl, refl)), ((λ p f. (Kind p, refl, refl)), ((λ p e. (Count, refl, sym e)), ((λ p f. (Zero p, refl, refl)), tt)))),
+  )
+
+  pub book-answer : (a : Answer) × Answers (bookRows b) (λ p. p ≡ signalsOf b) a
+  book-answer =
+      let r = first-row (bookRows b) (λ p. p ≡ signalsOf b) book-decided (λ h. (signalsOf b, refl)) in
+      answer-exists (bookRows b) (λ p. p ≡ signalsOf b) (r .0) (r .1) book-answerable (r .2)
+
+  pub sound-or-not : Hold (bookRows b) ⊎ (Hold (bookRows b) → ⊥)
+  sound-or-not = dite (decided-hold (bookRows b) book-decided) inl inr

@@ -1,38 +1,56 @@
--- The book of given settings and a given list of words, block by block, as "The book of blocks" lays it out; and the answer of writing it.
-use mathlib.Core.Bool.{Bool, cond}
+-- The book of given settings and a given list, block by block, as "The book of blocks" lays it out; and what is asked
+-- before it is written.
+use mathlib.Core.Bool.{cond}
 use mathlib.Core.List.{List, [], _∷_, _++_}
-use Prim.Native.Nat.{ℕ, _+_, _-_, _*_, _/_, _%_, _^_, _<_, min}
-use lib.ListN.{length, getD, take, drop}
-use lib.Dec.{leb, eqb}
+use Prim.Native.Nat.{ℕ, zero, suc, _+_, _-_, _*_, _/_, _%_, _^_, _<_, min}
+use lib.Dec.{eqb}
+use lib.ListN.{getD, take, drop}
+use Rattle.laws.specs.Rows.{Row}
 use Rattle.terms.specs.declared.Settings.{Settings}
-use Rattle.terms.specs.declared.Answer.{Answer}
-use Rattle.terms.specs.declared.Answer.the-variants.{Done, Count, Room}
-use Rattle.terms.specs.Answers.{numberOf}
+use Rattle.terms.specs.Ranges.{Setting, settingTable}
+use Rattle.terms.specs.Lists.{signalSize, count, countRow}
+use Rattle.terms.specs.Answers.{roomRow}
 use Rattle.book.specs.Words.{bytesOf, checkOf}
 
--- 1 for the settings block, which is block 0, and 2 for signal blocks
+-- "kind, 1 for the settings block (block 0), 2 for signal blocks (all later)"
 abbrev pub kindOf : ℕ → ℕ
-kindOf k = cond (eqb k 0) 1 2
+kindOf zero = 1
+kindOf (suc k) = 2
 
--- the signals in signal block k of a list of m: 24, and the rest in the last
+-- "at most 24 signals" to a signal block, and their words
+abbrev pub perBlock : ℕ
+perBlock = 24
+
+abbrev pub sectionSize : ℕ
+sectionSize = signalSize * perBlock
+
+-- the signals in signal block k of a list of m: "every signal block but the last is full"
 abbrev pub signalsIn : ℕ → ℕ → ℕ
-signalsIn m k = min 24 (m - 24 * (k - 1))
+signalsIn m k = min perBlock (m - perBlock * (k - 1))
 
--- 1 block plus m/24 rounded up
+-- "1 block plus m/24 rounded up"
 abbrev pub blocksFor : ℕ → ℕ
-blocksFor m = 1 + (m + 23) / 24
+blocksFor m = 1 + (m + (perBlock - 1)) / perBlock
 
--- the words of a block before the zeros that end at its check
-unfoldable pub settingsBlock : Settings → ℕ → List ℕ
-settingsBlock s m = 0 ∷ kindOf 0 ∷ s .cycle ∷ s .slot ∷ s .slots ∷ s .packing ∷ s .payload ∷ m ∷ []
+abbrev pub values : List Setting → List ℕ
+values [] = []
+values (t ∷ ts) = t .value ∷ values ts
 
--- at most 24 signals of five words each
-unfoldable pub signalBlock : List ℕ → ℕ → List ℕ
-signalBlock l k = k ∷ kindOf k ∷ signalsIn (length l / 5) k ∷ take 120 (drop (120 * (k - 1)) l)
+-- what stands behind a block's number and kind: the settings in the order of their table, and the signal count
+unfoldable pub settingsWords : Settings → ℕ → List ℕ
+settingsWords s m = values (settingTable s) ++ (m ∷ [])
 
--- word w of block k before the check; past the block's own words it is 0
-unfoldable pub bodyWord : Settings → List ℕ → ℕ → ℕ → ℕ
-bodyWord s l k w = cond (eqb k 0) (getD (settingsBlock s (length l / 5)) w 0) (getD (signalBlock l k) w 0)
+-- "the signals in it, then five words each"
+unfoldable pub signalWords : List ℕ → ℕ → List ℕ
+signalWords l k = signalsIn (count l) k ∷ take sectionSize (drop (sectionSize * (k - 1)) l)
+
+abbrev pub contentOf : Settings → List ℕ → ℕ → List ℕ
+contentOf s l zero = settingsWords s (count l)
+contentOf s l (suc k) = signalWords l (suc k)
+
+-- word w of block k before the check: "unused words zero"
+abbrev pub bodyWord : Settings → List ℕ → ℕ → ℕ → ℕ
+bodyWord s l k w = getD (k ∷ kindOf k ∷ contentOf s l k) w 0
 
 -- word w of block k: word 127 is the check
 unfoldable pub blockWord : Settings → List ℕ → ℕ → ℕ → ℕ
@@ -44,28 +62,11 @@ bookWord s l p = blockWord s l (p / 128) (p % 128)
 
 -- the bytes of the book
 unfoldable pub bookOf : Settings → List ℕ → List ℕ
-bookOf s l = bytesOf (bookWord s l) (128 * blocksFor (length l / 5))
+bookOf s l = bytesOf (bookWord s l) (128 * blocksFor (count l))
 
--- a refusal where the test fails
-abbrev pub unless : Bool → Answer → Answer → Answer
-unless test refusal rest = cond test rest refusal
-
--- what was lent is as it was, but where the answer is done
-abbrev pub ifDone : {A : Type 0} → Answer → A → A → A
-ifDone a done kept = cond (eqb (numberOf a) 0) done kept
-
--- the answer of writing a list into a room of so many bytes: 4, then 10, then done
-unfoldable pub writeAnswer : List ℕ → ℕ → Answer
-writeAnswer l room =
-    unless (eqb (length l % 5) 0) Count
-    (unless (leb (length l / 5) 600) Count
-    (unless (leb (512 * blocksFor (length l / 5)) room) (Room (512 * blocksFor (length l / 5)))
-    (Done (blocksFor (length l / 5)))))
-
--- the room afterwards: the book, and all that lies behind stays
-unfoldable pub roomAfter : Settings → List ℕ → List ℕ → List ℕ
-roomAfter s l room =
-    ifDone (writeAnswer l (length room)) (bookOf s l ++ drop (512 * blocksFor (length l / 5)) room) room
+-- "Writing: 4, 10", into so many lent bytes
+abbrev pub writingRows : List ℕ → (lent : ℕ) → List Row
+writingRows list lent = countRow list ∷ roomRow (512 * blocksFor (count list)) lent ∷ []
 
 -- settings that are words, as every value of the routines is
 pub record AreWords (s : Settings) : Type 0 where

@@ -3,3 +3,4 @@ pub mod Blocks
 pub mod Reading
 pub mod Part
 pub mod Outcomes
+pub mod Private

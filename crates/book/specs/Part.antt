@@ -1,21 +1,20 @@
--- The part of a book that holds a signal's twenty bytes: where it starts and how long it is.
-use mathlib.Core.Bool.{Bool, cond, _&&_}
+-- The part of a book that holds a signal's twenty bytes: which books have it, and where it starts.
 use mathlib.Core.List.{List}
 use Prim.Native.Nat.{ℕ, _+_, _-_, _*_, _/_, _%_}
-use lib.Dec.{leb}
-use Rattle.book.specs.Reading.{sound, signalsOf}
+use Rattle.laws.specs.Rows.{Hold}
+use Rattle.laws.specs.Lowest.{Between}
+use Rattle.terms.specs.Lists.{signalSize}
+use Rattle.book.specs.Blocks.{perBlock}
+use Rattle.book.specs.Reading.{signalsOf, bookRows}
 
 -- a sound book has signals 1 to m
-unfoldable pub hasSignal : List ℕ → ℕ → Bool
-hasSignal b i = sound b && (leb 1 i && leb i (signalsOf b))
+abbrev pub HasSignal : List ℕ → ℕ → Type 0
+HasSignal b i = Hold (bookRows b) × Between 1 (signalsOf b) i
 
--- where signal i starts
-abbrev pub signalAt : ℕ → ℕ
-signalAt i = 512 * (1 + (i - 1) / 24) + 12 + 20 * ((i - 1) % 24)
+-- "twenty bytes"
+abbrev pub partSize : ℕ
+partSize = 4 * signalSize
 
--- for any other book or signal the part is empty and starts at byte 0
-unfoldable pub partAt : List ℕ → ℕ → ℕ
-partAt b i = cond (hasSignal b i) (signalAt i) 0
-
-unfoldable pub partLength : List ℕ → ℕ → ℕ
-partLength b i = cond (hasSignal b i) 20 0
+-- "512 times (1 + (i − 1)/24, rounded down) plus 12 plus 20 times the remainder of (i − 1) by 24"
+abbrev pub partStart : ℕ → ℕ
+partStart i = 512 * (1 + (i - 1) / perBlock) + 12 + partSize * ((i - 1) % perBlock)

@@ -1,16 +1,16 @@
--- What reading a book gives: the tests of each block, the answer by 1 to 5 and then 10, the settings, and the lent list afterwards.
-use mathlib.Core.Bool.{Bool, cond, _&&_, _||_}
-use mathlib.Core.List.{List, _++_}
-use Prim.Native.Nat.{ℕ, _+_, _*_, _/_, _%_}
-use lib.ListN.{length, drop}
-use lib.Dec.{leb, ltb, eqb}
+-- What reading asks of a book, as rows of refusals over facts of its blocks; and what it gives: settings and a list.
+use mathlib.Core.Path.{_≡_}
+use mathlib.Core.List.{List, [], _∷_, _++_}
+use Prim.Native.Nat.{ℕ, zero, suc, _+_, _-_, _*_, _/_, _%_, _≤_, _<_}
+use lib.ListN.{length}
+use Rattle.laws.specs.Rows.{Row}
+use Rattle.laws.specs.Lowest.{EachTo, LowestWithout}
 use Rattle.terms.specs.declared.Settings.{Settings}
-use Rattle.terms.specs.declared.Answer.{Answer}
-use Rattle.terms.specs.declared.Answer.the-variants.{Done, Length, Check, Kind, Count, Zero, Room}
-use Rattle.terms.specs.Answers.{numberOf}
-use Rattle.book.specs.declared.Test.{Test}
-use Rattle.book.specs.Words.{upTo, firstFailing, wordAt, checkOf}
-use Rattle.book.specs.Blocks.{kindOf, signalsIn, blocksFor, unless, ifDone}
+use Rattle.terms.specs.Ranges.{settingsFrom}
+use Rattle.terms.specs.Lists.{signalSize}
+use Rattle.terms.specs.Answers.{roomRow}
+use Rattle.book.specs.Words.{upTo, wordAt, checkOf}
+use Rattle.book.specs.Blocks.{kindOf, sectionSize, signalsIn, blocksFor}
 
 -- the blocks of a book
 abbrev pub blocksIn : List ℕ → ℕ
@@ -24,83 +24,70 @@ inBlock b k w = wordAt b (128 * k + w)
 abbrev pub signalsOf : List ℕ → ℕ
 signalsOf b = inBlock b 0 7
 
--- how many words of block k are its own: all behind them, up to the check, must be zero
+-- how many words of block k are its own
 abbrev pub usedIn : ℕ → ℕ → ℕ
-usedIn m k = cond (eqb k 0) 8 (3 + 5 * signalsIn m k)
+usedIn m zero = 8
+usedIn m (suc k) = 3 + signalSize * signalsIn m (suc k)
 
--- word w of block k is one of its own, or zero
-unfoldable pub zeroOrUsed : List ℕ → ℕ → ℕ → Bool
-zeroOrUsed b k w = ltb w (usedIn (signalsOf b) k) || eqb (inBlock b k w) 0
+-- ---- what is asked
 
--- whether block k passes a test: its check; its number and kind; the signal count, for block 0 with the block count; its zeros
-unfoldable pub right : List ℕ → Test → ℕ → Bool
-right b Test.Check k = eqb (inBlock b k 127) (checkOf (inBlock b k))
-right b Test.Kind k = eqb (inBlock b k 0) k && eqb (inBlock b k 1) (kindOf k)
-right b Test.Count k =
-    cond (eqb k 0) (leb (signalsOf b) 600 && eqb (blocksIn b) (blocksFor (signalsOf b)))
-    (eqb (inBlock b k 2) (signalsIn (signalsOf b) k))
-right b Test.Zero k = eqb (firstFailing (zeroOrUsed b k) 127) 127
+-- 1: "book length is 0, not a multiple of 512, or over 26 blocks"
+pub record LengthRight (b : List ℕ) : Type 0 where
+  pub some : 0 < length b
+  pub whole : length b % 512 ≡ 0
+  pub few : blocksIn b ≤ 26
 
--- the first block that fails a test, or the number of blocks; and whether none does
-unfoldable pub firstWrong : List ℕ → Test → ℕ
-firstWrong b t = firstFailing (right b t) (blocksIn b)
+abbrev pub CheckRight : List ℕ → ℕ → Type 0
+CheckRight b k = inBlock b k 127 ≡ checkOf (inBlock b k)
 
-unfoldable pub passes : List ℕ → Test → Bool
-passes b t = eqb (firstWrong b t) (blocksIn b)
+abbrev pub KindRight : List ℕ → ℕ → Type 0
+KindRight b k = (inBlock b k 0 ≡ k) × (inBlock b k 1 ≡ kindOf k)
 
--- the length is not 0, a multiple of 512, and at most 26 blocks
-unfoldable pub lengthRight : List ℕ → Bool
-lengthRight b = ltb 0 (length b) && (eqb (length b % 512) 0 && leb (blocksIn b) 26)
+-- the settings block has the signal count, which the number of blocks must fit; a signal block has its share
+abbrev pub CountRight : List ℕ → ℕ → Type 0
+CountRight b zero = (signalsOf b ≤ 600) × (blocksIn b ≡ blocksFor (signalsOf b))
+CountRight b (suc k) = inBlock b (suc k) 2 ≡ signalsIn (signalsOf b) (suc k)
 
--- the answer by 1 to 5, each over all blocks before the next
-unfoldable pub judged : List ℕ → Answer
-judged b =
-    unless (lengthRight b) Length
-    (unless (passes b Test.Check) (Check (firstWrong b Test.Check))
-    (unless (passes b Test.Kind) (Kind (firstWrong b Test.Kind))
-    (unless (passes b Test.Count) Count
-    (unless (passes b Test.Zero) (Zero (firstWrong b Test.Zero)) (Done (signalsOf b))))))
+-- all words behind a block's own, up to the check, are zero
+abbrev pub ZerosRight : List ℕ → ℕ → Type 0
+ZerosRight b k = (w : ℕ) → usedIn (signalsOf b) k ≤ w → w < 127 → inBlock b k w ≡ 0
 
--- a sound book is one that 1 to 5 do not refuse
-unfoldable pub sound : List ℕ → Bool
-sound b = eqb (numberOf (judged b)) 0
+-- a fact of each block, and the first block without it: the i-th block has number i - 1
+abbrev pub EachBlock : List ℕ → (ℕ → Type 0) → Type 0
+EachBlock b P = EachTo (blocksIn b) (λ i. P (i - 1))
 
--- the answer of reading into a lent list of so many words: 1 to 5, then 10, then done
-unfoldable pub readAnswer : List ℕ → ℕ → Answer
-readAnswer b room =
-    cond (sound b)
-    (unless (leb (5 * signalsOf b) room) (Room (5 * signalsOf b)) (Done (signalsOf b)))
-    (judged b)
+abbrev pub FirstBlock : List ℕ → (ℕ → Type 0) → ℕ → Type 0
+FirstBlock b P p = LowestWithout (blocksIn b) (λ i. P (i - 1)) (p + 1)
 
--- words 2 to 6 of the settings block; and five zeros
+abbrev pub blockRow : (number : ℕ) → List ℕ → (ℕ → Type 0) → Row
+blockRow number b P = record { number = number; holds = EachBlock b P; place = FirstBlock b P }
+
+-- 1 to 5, "each over all blocks before the next"; a sound book is one of which all hold
+abbrev pub bookRows : List ℕ → List Row
+bookRows b =
+    record { number = 1; holds = LengthRight b; place = λ p. p ≡ 0 }
+    ∷ blockRow 2 b (CheckRight b)
+    ∷ blockRow 3 b (KindRight b)
+    ∷ record { number = 4; holds = EachBlock b (CountRight b); place = λ p. p ≡ 0 }
+    ∷ blockRow 5 b (ZerosRight b)
+    ∷ []
+
+-- "Order when reading: 1, 2, 3, 4, 5, 10", into so many lent words
+abbrev pub readingRows : List ℕ → (lent : ℕ) → List Row
+readingRows b lent = bookRows b ++ (roomRow (signalSize * signalsOf b) lent ∷ [])
+
+-- ---- what is given
+
+-- words 2 to 6 of the settings block; and "a refusal gives five zeros"
 unfoldable pub settingsIn : List ℕ → Settings
-settingsIn b =
-    record {
-      cycle = inBlock b 0 2;
-      slot = inBlock b 0 3;
-      slots = inBlock b 0 4;
-      packing = inBlock b 0 5;
-      payload = inBlock b 0 6;
-    }
+settingsIn b = settingsFrom (inBlock b 0)
 
 abbrev pub fiveZeros : Settings
-fiveZeros = record { cycle = 0; slot = 0; slots = 0; packing = 0; payload = 0 }
+fiveZeros = settingsFrom (λ w. 0)
 
--- the settings of a sound book, else five zeros
-unfoldable pub settingsOf : List ℕ → Settings
-settingsOf b = cond (sound b) (settingsIn b) fiveZeros
-
--- word i of the list: 120 words from word 3 of each signal block
+-- word i of the list: "five words each from word 3" of each signal block
 unfoldable pub listWord : List ℕ → ℕ → ℕ
-listWord b i = inBlock b (1 + i / 120) (3 + i % 120)
+listWord b i = inBlock b (1 + i / sectionSize) (3 + i % sectionSize)
 
--- the five words of each signal
 unfoldable pub listIn : List ℕ → List ℕ
-listIn b = upTo (listWord b) (5 * signalsOf b)
-
--- the settings given back, and the lent list afterwards: all that lies behind stays
-unfoldable pub settingsGiven : List ℕ → ℕ → Settings
-settingsGiven b room = ifDone (readAnswer b room) (settingsIn b) fiveZeros
-
-unfoldable pub listAfter : List ℕ → List ℕ → List ℕ
-listAfter b l = ifDone (readAnswer b (length l)) (listIn b ++ drop (5 * signalsOf b) l) l
+listIn b = upTo (listWord b) (signalSize * signalsOf b)

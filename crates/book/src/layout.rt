@@ -1,9 +1,18 @@
 // How a book is laid out: kinds, signals to a block, blocks to a book, and where a signal starts; this crate's alone.
 // Promises: each number is the definition's; reading and writing take it from here.
+use terms::SIGNAL_WORDS;
 ghost use mathlib.Core.Path.{_≡_};
 ghost use Prim.Native.Nat.{_^_, _≤_, _<_};
 ghost use Rattle.book.specs.Blocks.{kindOf, signalsIn, blocksFor};
-ghost use Rattle.book.specs.Part.{signalAt};
+ghost use Rattle.book.specs.Part.{partStart};
+
+// The signals of a full signal block, and their words.
+pub(crate) const PER_BLOCK: usize = 24;
+
+pub(crate) const SECTION_WORDS: usize = SIGNAL_WORDS * PER_BLOCK;
+
+// The bytes of a signal.
+pub(crate) const PART_BYTES: usize = 4 * SIGNAL_WORDS;
 
 // 1 for the settings block, 2 for signal blocks.
 pub(crate) fn kind_of(k: usize) -> u32
@@ -20,14 +29,14 @@ pub(crate) fn signals_in(m: usize, k: usize) -> usize
     requires { ⌜ (0 < k) × (k < 2 ^ 56) ⌝ }
     ensures { λ r. ⌜ r ≡ signalsIn m k ⌝ }
 {
-    let before = 24 * (k - 1);
+    let before = PER_BLOCK * (k - 1);
     if m <= before {
         return 0;
     }
-    if m - before < 24 {
+    if m - before < PER_BLOCK {
         return m - before;
     }
-    24
+    PER_BLOCK
 }
 
 // The blocks of a book of m signals.
@@ -35,14 +44,14 @@ pub(crate) fn blocks_for(m: usize) -> usize
     requires { ⌜ m < 2 ^ 32 ⌝ }
     ensures { λ r. ⌜ r ≡ blocksFor m ⌝ }
 {
-    1 + (m + 23) / 24
+    1 + (m + (PER_BLOCK - 1)) / PER_BLOCK
 }
 
 // Where signal i starts in a book that has it.
-pub(crate) fn signal_at(i: u32) -> usize
+pub(crate) fn part_start(i: u32) -> usize
     requires { ⌜ 1 ≤ i ⌝ }
-    ensures { λ r. ⌜ r ≡ signalAt i ⌝ }
+    ensures { λ r. ⌜ r ≡ partStart i ⌝ }
 {
     let j = (i - 1) as usize;
-    512 * (1 + j / 24) + 12 + 20 * (j % 24)
+    512 * (1 + j / PER_BLOCK) + 12 + PART_BYTES * (j % PER_BLOCK)
 }

@@ -1,53 +1,44 @@
 // The book of blocks: settings and a list of signals as bytes, read, written, and lent a signal at a time.
-// Promises: each public routine's answer and every lent word and byte at exit are one function of what it was given.
+// Promises: each public routine's answer and every lent word and byte at exit are fixed by what it was given.
 mod layout;
 mod reader;
 mod words;
 mod writer;
 
+use layout::PART_BYTES;
 use layout::blocks_for;
-use layout::signal_at;
+use layout::part_start;
 use reader::copy_list;
 use reader::has_signal;
 use reader::judge;
 use reader::settings_in;
 use terms::Answer;
+use terms::SIGNAL_WORDS;
 use terms::Settings;
-use words::word;
+use words::put_word;
 use writer::fill;
-use writer::put_all;
 ghost use mathlib.Core.Path.{_≡_};
-ghost use Rattle.book.specs.Reading.{fiveZeros, settingsOf};
-ghost use Rattle.book.specs.Part.{partAt};
+ghost use Rattle.laws.specs.Given.{Given};
+ghost use Rattle.book.specs.Reading.{fiveZeros};
+ghost use Rattle.book.specs.Part.{HasSignal, partStart};
 ghost use Rattle.book.specs.Words.{bytesAfter};
-ghost use Rattle.book.specs.Outcomes.{ReadOutcome, WriteOutcome, PartOutcome};
+ghost use Rattle.book.specs.Outcomes.{ReadOutcome, SettingsOutcome, WriteOutcome, PartOutcome};
 
 pub struct Reading {
     pub answer: Answer,
     pub settings: Settings,
 }
 
-// What a block is tested for, in the order of the refusals 2 to 5.
-pub enum Test {
-    Check,
-    Kind,
-    Count,
-    Zero,
-}
-
 // A refusal gives five zeros.
-fn refused(answer: Answer) -> Reading
-    ensures { λ r. ⌜ (r .answer ≡ answer) × (r .settings ≡ fiveZeros) ⌝ }
+fn no_settings() -> Settings
+    ensures { λ r. ⌜ r ≡ fiveZeros ⌝ }
 {
-    Reading {
-        answer,
-        settings: Settings {
-            cycle: 0,
-            slot: 0,
-            slots: 0,
-            packing: 0,
-            payload: 0,
-        },
+    Settings {
+        cycle: 0,
+        slot: 0,
+        slots: 0,
+        packing: 0,
+        payload: 0,
     }
 }
 
@@ -57,29 +48,31 @@ pub fn read(book: &[u8], list: &mut [u32]) -> Reading
 {
     let answer = judge(book);
     if terms::number(answer) != 0 {
-        return refused(answer);
+        return Reading {
+            answer,
+            settings: no_settings(),
+        };
     }
-    let m = word(book, 7);
-    let count = 5 * (m as usize);
+    let count = SIGNAL_WORDS * (terms::place(answer) as usize);
     if list.len() < count {
-        return refused(Answer::Room(count as u32));
+        return Reading {
+            answer: Answer::Room(count as u32),
+            settings: no_settings(),
+        };
     }
-    let settings = settings_in(book);
     copy_list(book, list, count);
     Reading {
-        answer: Answer::Done(m),
-        settings,
+        answer,
+        settings: settings_in(book),
     }
 }
 
 // The settings of a sound book; of any other five zeros.
 pub fn settings_of(book: &[u8]) -> Settings
-    ensures { λ r. ⌜ r ≡ settingsOf (now (book .entry)) ⌝ }
+    ensures { λ r. ⌜ SettingsOutcome (now (book .entry)) r ⌝ }
 {
-    let answer = judge(book);
-    if terms::number(answer) != 0 {
-        let none = refused(answer);
-        return none.settings;
+    if terms::number(judge(book)) != 0 {
+        return no_settings();
     }
     settings_in(book)
 }
@@ -88,16 +81,13 @@ pub fn settings_of(book: &[u8]) -> Settings
 pub fn write(s: Settings, list: &[u32], room: &mut [u8]) -> Answer
     ensures { λ r. ⌜ WriteOutcome s (now (list .entry)) (now (room .entry)) r (now (room .exit)) ⌝ }
 {
-    if list.len() % 5 != 0 {
+    if !terms::count_in_range(list) {
         return Answer::Count;
     }
-    let m = list.len() / 5;
-    if 600 < m {
-        return Answer::Count;
-    }
-    let blocks = blocks_for(m);
-    if room.len() < 512 * blocks {
-        return Answer::Room((512 * blocks) as u32);
+    let blocks = blocks_for(terms::count(list));
+    let bytes = 512 * blocks;
+    if room.len() < bytes {
+        return Answer::Room(bytes as u32);
     }
     fill(s, list, room, blocks);
     Answer::Done(blocks as u32)
@@ -110,18 +100,18 @@ pub fn part(book: &[u8], i: u32) -> &[u8]
     if !has_signal(book, i) {
         return &book[0..0];
     }
-    let at = signal_at(i);
-    &book[at..at + 20]
+    let at = part_start(i);
+    &book[at..at + PART_BYTES]
 }
 
 // The byte of the book at which the part for signal i starts, or 0.
 pub fn part_at(book: &[u8], i: u32) -> usize
-    ensures { λ r. ⌜ r ≡ partAt (now (book .entry)) i ⌝ }
+    ensures { λ r. ⌜ Given (HasSignal (now (book .entry)) i) (λ p. p ≡ partStart i) r ⌝ }
 {
     if !has_signal(book, i) {
         return 0;
     }
-    signal_at(i)
+    part_start(i)
 }
 
 // Words as little-endian bytes into the first bytes of the lent room; nothing where the room is too short for all.
@@ -131,5 +121,9 @@ pub fn put_words(list: &[u32], room: &mut [u8])
     if room.len() / 4 < list.len() {
         return;
     }
-    put_all(list, room);
+    let mut p: usize = 0;
+    while p < list.len() {
+        put_word(room, p, list[p]);
+        p += 1;
+    }
 }

@@ -7,25 +7,30 @@ use mathlib.Core.Logic.{⊎-elim}
 use Prim.Native.Nat.{ℕ, zero, suc}
 use native.Mathlib.Nat.{eq-or-lt-of-le}
 use native.Mathlib.Omega.{arith}
-use Rattle.laws.specs.Shown.{Test, passing, equal, join, shown}
+use Rattle.laws.proofs.Shown.{Test, passing, equal, join, shown}
 use Rattle.terms.specs.declared.Settings.{Settings}
 use Rattle.terms.specs.declared.Signal.{Signal}
-use Rattle.terms.specs.Ranges.{Between, Valid}
+use Rattle.laws.specs.Lowest.{Between}
+use Rattle.terms.specs.Ranges.{Valid}
 use Rattle.rule.specs.Rule.{Keeps, segment, Largest}
-use Rattle.planner.specs.Lists.{count, signalAt}
-use Rattle.planner.specs.Filled.{Place, filled, needed}
-use Rattle.planner.specs.Judged.{repetitionIn}
-use Rattle.cases.specs.Cases.{Filled}
-use Rattle.age.specs.RangeTests.{valid-test}
-use Rattle.rule.specs.RuleTests.{gets-test}
+use Rattle.terms.specs.Lists.{count, signalAt}
+use Rattle.filling.specs.Runs.{Placed}
+use Rattle.filling.specs.Filled.{needed, filled}
+use Rattle.filling.specs.Outcomes.{repetitionIn}
+use Rattle.cases.specs.Cases.{FilledAs}
+use Rattle.age.proofs.RangeTests.{valid-test}
+use Rattle.rule.proofs.RuleTests.{gets-test}
 
--- two places are the same where their three numbers are
-abbrev same-place : (p q : Place) → Test (p ≡ q)
+-- two placed frames are the same where their four numbers are
+abbrev same-place : (p q : Placed) → Test (p ≡ q)
 same-place p q =
-    shown (λ h. λ i. record { signal = h .0 i; slot = h .1 .0 i; base = h .1 .1 i })
-    (join (equal (p .signal) (q .signal)) (join (equal (p .slot) (q .slot)) (equal (p .base) (q .base))))
+    shown
+    (λ h. λ i. record { signal = h .0 i; frame = record { slot = h .1 .0 i; repetition = h .1 .1 .0 i; base = h .1 .1 .1 i } })
+    (join (equal (p .signal) (q .signal))
+    (join (equal (p .frame .slot) (q .frame .slot))
+    (join (equal (p .frame .repetition) (q .frame .repetition)) (equal (p .frame .base) (q .frame .base)))))
 
-abbrev pub same-places : (ps qs : List Place) → Test (ps ≡ qs)
+abbrev pub same-places : (ps qs : List Placed) → Test (ps ≡ qs)
 same-places [] [] = passing refl
 same-places [] (q ∷ qs) = (false, λ t. absurd t)
 same-places (p ∷ ps) [] = (false, λ t. absurd t)
@@ -46,7 +51,7 @@ up-to P t (suc n) = shown (λ h. next P n (h .0) (h .1)) (join (t (suc n)) (up-t
 abbrev signal-test : (s : Settings) (x : Signal) (r : ℕ) → Test (Valid s x × Largest (Keeps s x (segment s)) r)
 signal-test s x r = shown (λ h. (h .0, h .1 (h .0))) (join (valid-test s x) (gets-test s x r))
 
-abbrev pub fills-test : (s : Settings) (list repetitions : List ℕ) (places : List Place) (slots : ℕ) → Test (Filled s list repetitions places slots)
+abbrev pub fills-test : (s : Settings) (list repetitions : List ℕ) (places : List Placed) (slots : ℕ) → Test (FilledAs s list repetitions places slots)
 fills-test s list repetitions places slots =
     shown (λ h. record { valid = λ i b. h .0 i b .0; gets = λ i b. h .0 i b .1; places = h .1 .0; used = h .1 .1 })
     (join

@@ -8,10 +8,11 @@ use Rattle.terms.specs.declared.Frame.{Frame}
 use Rattle.terms.specs.Ranges.{Valid}
 use Rattle.age.specs.Age.{Age}
 use Rattle.age.specs.Given.{InRange}
-use Rattle.rule.specs.Rule.{Keeps, segment, Largest}
-use Rattle.planner.specs.Lists.{EachSignal, Repetitions}
-use Rattle.planner.specs.Filled.{Place, filled, needed}
-use Rattle.planner.specs.Judged.{repetitionIn}
+use Rattle.rule.specs.Rule.{Keeps, segment, Largest, Repetitions}
+use Rattle.terms.specs.Lists.{EachSignal}
+use Rattle.filling.specs.Runs.{Placed}
+use Rattle.filling.specs.Filled.{needed, filled}
+use Rattle.filling.specs.Outcomes.{repetitionIn}
 
 -- "Unless said otherwise: cycle 2,500, slot 16, 93 slots, packing 0, payload 8."
 abbrev pub settings : (slots packing : ℕ) → Settings
@@ -24,8 +25,9 @@ signal period offset bound = record { unit = 1; period = period; offset = offset
 abbrev pub frame : (slot repetition : ℕ) → Frame
 frame slot repetition = record { slot = slot; repetition = repetition; base = 0 }
 
-abbrev pub place : (signal slot base : ℕ) → Place
-place signal slot base = record { signal = signal; slot = slot; base = base }
+abbrev pub place : (signal slot repetition base : ℕ) → Placed
+place signal slot repetition base =
+    record { signal = signal; frame = record { slot = slot; repetition = repetition; base = base } }
 
 pub data Case : Type 0 where
   -- the signal's repetition, 0 where it is refused with number 8
@@ -33,22 +35,22 @@ pub data Case : Type 0 where
   -- the signal's age in a frame
   shows : Settings → Signal → Frame → ℕ → Case
   -- the repetitions of a list's signals, where each is placed, in the order of filling, and the slots used
-  fills : Settings → List ℕ → (repetitions : List ℕ) → List Place → ℕ → Case
+  fills : Settings → List ℕ → (repetitions : List ℕ) → List Placed → ℕ → Case
 
-pub record Filled (s : Settings) (list repetitions : List ℕ) (at : List Place) (slots : ℕ) : Type 0 where
+pub record FilledAs (s : Settings) (list repetitions : List ℕ) (at : List Placed) (slots : ℕ) : Type 0 where
   pub valid : EachSignal list (Valid s)
   pub gets : Repetitions s list (repetitionIn repetitions)
   pub places : filled list (repetitionIn repetitions) ≡ at
   pub used : needed list (repetitionIn repetitions) ≡ slots
 
-abbrev pub Holds : Case → Type 0
-Holds (gets s x r) = Valid s x × Largest (Keeps s x (segment s)) r
-Holds (shows s x f a) = InRange s x f × Age s x f a
-Holds (fills s list repetitions places slots) = Filled s list repetitions places slots
+abbrev pub CaseHolds : Case → Type 0
+CaseHolds (gets s x r) = Valid s x × Largest (Keeps s x (segment s)) r
+CaseHolds (shows s x f a) = InRange s x f × Age s x f a
+CaseHolds (fills s list repetitions places slots) = FilledAs s list repetitions places slots
 
-abbrev pub AllHold : List Case → Type 0
-AllHold [] = Unit {0}
-AllHold (c ∷ cs) = Holds c × AllHold cs
+abbrev pub EachCase : List Case → Type 0
+EachCase [] = Unit {0}
+EachCase (c ∷ cs) = CaseHolds c × EachCase cs
 
 abbrev pub starred : List Case
 starred =
@@ -80,10 +82,10 @@ starred =
     -- 10: repetitions 4, 2, 4 in list order: bases 1, 0, 3, one full slot
     ∷ fills (settings 93 100)
     (1 ∷ 10000 ∷ 2000 ∷ 16 ∷ 10000 ∷ 1 ∷ 5000 ∷ 2000 ∷ 16 ∷ 5000 ∷ 1 ∷ 10000 ∷ 2000 ∷ 16 ∷ 10000 ∷ []) (4 ∷ 2 ∷ 4 ∷ [])
-    (place 2 1 0 ∷ place 1 1 1 ∷ place 3 1 3 ∷ []) 1
+    (place 2 1 2 0 ∷ place 1 1 4 1 ∷ place 3 1 4 3 ∷ []) 1
     -- 12: an empty list
     ∷ fills (settings 93 0) [] [] [] 0
     ∷ []
 
 unfoldable pub Claim : Type 0
-Claim = AllHold starred
+Claim = EachCase starred

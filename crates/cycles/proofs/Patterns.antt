@@ -2,6 +2,7 @@
 -- Assumes nothing.
 use mathlib.Core.Path.{_≡_, sym, ap, _∙_, subst}
 use mathlib.Core.Bool.{Bool, cond}
+use mathlib.Core.List.{List, [], _∷_}
 use Prim.Native.Nat.{ℕ, _*_, _/_, _%_, _^_, _≤_}
 use native.Mathlib.Nat.{mul-mod-left, div-add-mod'}
 use native.Mathlib.Omega.{arith}
@@ -10,11 +11,23 @@ use lib.Dec.{T, eqb, eqb→eq}
 use lib.ListN.{getD}
 use lib.Count.{trailingZeros}
 use Rattle.laws.specs.Divisor.{Divides}
-use Rattle.laws.specs.Tests.{below, at}
+use Rattle.laws.proofs.Tests.{below, at}
 use Rattle.cycles.specs.Bits.{bit, Shows, Mask}
-use Rattle.cycles.specs.MaskLaws.{shows-test, shows-iff}
-use Rattle.cycles.specs.Frames.{patterns, Multiple}
+use Rattle.cycles.proofs.MaskLaws.{shows-test, shows-iff}
+use Rattle.cycles.specs.Frames.{Multiple}
 use Rattle.terms.specs.Ranges.{Repetition}
+
+-- the patterns as they are printed, by exponent
+unfoldable pub patterns : List ℕ
+patterns =
+    0xffff_ffff_ffff_ffff
+    ∷ 0x5555_5555_5555_5555
+    ∷ 0x1111_1111_1111_1111
+    ∷ 0x0101_0101_0101_0101
+    ∷ 0x0001_0001_0001_0001
+    ∷ 0x0000_0001_0000_0001
+    ∷ 0x0000_0000_0000_0001
+    ∷ []
 
 -- bit c of the pattern of 2^e is 1 exactly where c is a multiple of 2^e
 right : ℕ → ℕ → Bool

@@ -7,12 +7,12 @@ use Prim.Native.Nat.{ℕ, _^_, _<_}
 use native.Mathlib.Decide.{decLt}
 use native.Mathlib.Omega.{arith}
 use Rattle.laws.specs.Says.{Says}
-use Rattle.laws.specs.SaysLaws.{says-unique}
+use Rattle.laws.proofs.SaysLaws.{says-unique}
 use Rattle.cycles.specs.declared.Tally.{Tally}
 use Rattle.cycles.specs.declared.Slot.{Slot}
 use Rattle.cycles.specs.Bits.{Mask}
-use Rattle.cycles.specs.BitLaws.{equal-by-bits}
-use Rattle.cycles.specs.MaskLaws.{mask-unique}
+use Rattle.cycles.proofs.BitLaws.{equal-by-bits}
+use Rattle.cycles.proofs.MaskLaws.{mask-unique}
 use Rattle.cycles.specs.Frames.{Multiple, Names}
 use Rattle.cycles.specs.Loads.{Tallied, slotsFor}
 use Rattle.cycles.specs.Loads.Tallied.{added, past, other}

@@ -10,8 +10,8 @@ use native.Mathlib.Nat.{lt-of-le-of-lt}
 use Rattle.terms.specs.Ranges.{Repetition}
 use Rattle.cycles.specs.declared.Slot.{Slot}
 use Rattle.cycles.specs.Bits.{bit, Shows, Mask}
-use Rattle.cycles.specs.BitLaws.{bit-lt, bit-and, bit-not, bit-kept, bit-shifted, bit-shifted-out, equal-by-bits}
-use Rattle.cycles.specs.MaskLaws.{shows-iff, shows-never, shown, bit-of, shows-without, shows-itself}
+use Rattle.cycles.proofs.BitLaws.{bit-lt, bit-and, bit-not, bit-kept, bit-shifted, bit-shifted-out, equal-by-bits}
+use Rattle.cycles.proofs.MaskLaws.{shows-iff, shows-never, shown, bit-of, shows-without, shows-itself}
 use Rattle.cycles.specs.Frames.{Multiple, Names}
 use Rattle.cycles.specs.Slots.{AllFree, Free}
 

@@ -1,21 +1,9 @@
--- The seven patterns, and the cycles that a frame names: "it starts again every R cycles".
+-- The cycles that a pattern and a frame name: "it starts again every R cycles".
 use mathlib.Core.Path.{_≡_}
-use mathlib.Core.List.{List, [], _∷_}
 use Prim.Native.Nat.{ℕ, _+_, _*_, _<_}
 use Rattle.laws.specs.Divisor.{Divides}
+use Rattle.terms.specs.declared.Frame.{Frame}
 use Rattle.terms.specs.Ranges.{Repetition}
-
--- the patterns as they are printed, by exponent
-unfoldable pub patterns : List ℕ
-patterns =
-    0xffff_ffff_ffff_ffff
-    ∷ 0x5555_5555_5555_5555
-    ∷ 0x1111_1111_1111_1111
-    ∷ 0x0101_0101_0101_0101
-    ∷ 0x0001_0001_0001_0001
-    ∷ 0x0000_0001_0000_0001
-    ∷ 0x0000_0000_0000_0001
-    ∷ []
 
 -- cycle c is a multiple of the repetition R
 pub record Multiple (R c : ℕ) : Type 0 where
@@ -27,3 +15,7 @@ pub record Names (R b c : ℕ) : Type 0 where
   pub repetition : Repetition R
   pub base : b < R
   pub again : (k : ℕ) × (c ≡ b + k * R)
+
+-- frame f goes out in slot k of cycle c: "the cycles that its base and repetition name"
+abbrev pub Sends : Frame → (k c : ℕ) → Type 0
+Sends f k c = (f .slot ≡ k) × Names (f .repetition) (f .base) c

@@ -1,1 +1,4 @@
+pub mod BytesLaws
+pub mod ShownLaws
+pub mod BookLaws
 pub mod Unique

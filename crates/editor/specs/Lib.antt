@@ -1,4 +1,4 @@
 pub mod Words
+pub mod Rows
 pub mod Answered
-pub mod BookPlan
-pub mod BookPlanLaws
+pub mod Private

@@ -1,14 +1,15 @@
 // The calls of the configuration editor, a C program: numbers as they stand in the book, and their answers.
 // Promises: what the rooms below promise, of the words as they are handed over.
+ghost use mathlib.Core.Path.{_≡_};
+ghost use Rattle.laws.specs.Given.{Given};
+ghost use Rattle.terms.specs.Lists.{CountInRange};
+ghost use Rattle.terms.specs.Requests.{request, planRoom};
 ghost use Rattle.age.specs.Given.{AgeGiven};
 ghost use Rattle.rule.specs.Rule.{RepetitionGiven};
-ghost use Rattle.editor.specs.Words.{settingsFrom, signalFrom, frameFrom, settingAt};
-ghost use Rattle.editor.specs.Answered.{ReadAnswered, WriteAnswered, PlanAnswered};
-ghost use Rattle.editor.specs.BookPlan.{BytesPlanned, BookAnswered};
-ghost use Rattle.planner.specs.Lists.{CountInRange};
-ghost use Rattle.book.specs.Reading.{settingsOf};
-ghost use Rattle.book.specs.Part.{partAt};
-ghost use mathlib.Core.Path.{_≡_};
+ghost use Rattle.book.specs.Part.{HasSignal, partStart};
+ghost use Rattle.editor.specs.Words.{settingsGiven, signalGiven, frameGiven};
+ghost use Rattle.editor.specs.Answered.{ReadAnswered, SettingAnswered, WriteAnswered, PlanAnswered, BookAnswered};
+ghost use Rattle.editor.specs.Private.{BytesPlanned};
 use terms::Answer;
 use terms::Frame;
 use terms::Settings;
@@ -31,7 +32,7 @@ pub extern "C" fn noctelvia_age(
     repetition: u32,
     base: u32,
 ) -> u32
-    ensures { λ r. ⌜ AgeGiven (settingsFrom cycle length slots packing payload) (signalFrom unit period offset size bound) (frameFrom slot repetition base) r ⌝ }
+    ensures { λ r. ⌜ AgeGiven (settingsGiven cycle length slots packing payload) (signalGiven unit period offset size bound) (frameGiven slot repetition base) r ⌝ }
 {
     let s = Settings {
         cycle,
@@ -69,7 +70,7 @@ pub extern "C" fn noctelvia_repetition(
     size: u32,
     bound: u32,
 ) -> u32
-    ensures { λ r. ⌜ RepetitionGiven (settingsFrom cycle length slots packing payload) (signalFrom unit period offset size bound) r ⌝ }
+    ensures { λ r. ⌜ RepetitionGiven (settingsGiven cycle length slots packing payload) (signalGiven unit period offset size bound) r ⌝ }
 {
     let s = Settings {
         cycle,
@@ -101,9 +102,9 @@ pub extern "C" fn noctelvia_read(book: &[u8], list: &mut [u32]) -> u64
 // Setting word 2 to 6 of a sound book; 0 for any other book or word.
 #[no_mangle]
 pub extern "C" fn noctelvia_setting(book: &[u8], word: u32) -> u32
-    ensures { λ r. ⌜ r ≡ settingAt (settingsOf (now (book .entry))) word ⌝ }
+    ensures { λ r. ⌜ SettingAnswered (now (book .entry)) word r ⌝ }
 {
-    setting_at(book::settings_of(book), word)
+    terms::setting_word(book::settings_of(book), word)
 }
 
 // Writing the book of settings and a list into lent room.
@@ -117,7 +118,7 @@ pub extern "C" fn noctelvia_write(
     list: &[u32],
     room: &mut [u8],
 ) -> u64
-    ensures { λ r. ⌜ WriteAnswered (settingsFrom cycle length slots packing payload) (now (list .entry)) (now (room .entry)) r (now (room .exit)) ⌝ }
+    ensures { λ r. ⌜ WriteAnswered (settingsGiven cycle length slots packing payload) (now (list .entry)) (now (room .entry)) r (now (room .exit)) ⌝ }
 {
     let s = Settings {
         cycle,
@@ -132,12 +133,12 @@ pub extern "C" fn noctelvia_write(
 // The byte at which the twenty bytes of a signal start in a sound book that has it, or 0.
 #[no_mangle]
 pub extern "C" fn noctelvia_part(book: &[u8], signal: u32) -> u64
-    ensures { λ r. ⌜ r ≡ partAt (now (book .entry)) signal ⌝ }
+    ensures { λ r. ⌜ Given (HasSignal (now (book .entry)) signal) (λ at. at ≡ partStart signal) r ⌝ }
 {
     book::part_at(book, signal) as u64
 }
 
-// Planning over lent words, 64 cells a slot and four words a signal.
+// Planning over lent words, 64 cells a slot and a result a signal.
 #[no_mangle]
 pub extern "C" fn noctelvia_plan_list(
     cycle: u32,
@@ -149,7 +150,7 @@ pub extern "C" fn noctelvia_plan_list(
     cells: &mut [u32],
     results: &mut [u32],
 ) -> u64
-    ensures { λ r. ⌜ PlanAnswered (settingsFrom cycle length slots packing payload) (now (list .entry)) (now (cells .entry)) (now (results .entry)) r (now (cells .exit)) (now (results .exit)) ⌝ }
+    ensures { λ r. ⌜ PlanAnswered (request (settingsGiven cycle length slots packing payload) (now (list .entry))) (planRoom (now (cells .entry)) (now (results .entry))) r (planRoom (now (cells .exit)) (now (results .exit))) ⌝ }
 {
     let s = Settings {
         cycle,
@@ -161,62 +162,41 @@ pub extern "C" fn noctelvia_plan_list(
     terms::packed(planner::plan(s, list, cells, results))
 }
 
-// Planning a book: four little-endian words a signal into the lent bytes.
+// Planning a book: the little-endian words of a result a signal into the lent bytes.
 #[no_mangle]
 pub extern "C" fn noctelvia_plan(book: &[u8], results: &mut [u8]) -> u64
     ensures { λ r. ⌜ BookAnswered (now (book .entry)) (now (results .entry)) r (now (results .exit)) ⌝ }
 {
-    let mut list = [0u32; 3000];
+    let mut list = [0u32; terms::SIGNAL_WORDS * terms::MOST_SIGNALS];
     let reading = book::read(book, &mut list);
     let answer = reading.answer;
     if terms::number(answer) != 0 {
         return terms::packed(answer);
     }
     let s = reading.settings;
-    let words = 5 * (terms::place(answer) as usize);
+    let words = terms::SIGNAL_WORDS * (terms::place(answer) as usize);
     terms::packed(plan_bytes(s, &list[..words], results))
 }
 
-// The plan of a list whose results are bytes: only they can be too short.
+// The plan of a list whose results are bytes: planning's own, into words of its own; only the bytes can be too few.
 fn plan_bytes(s: Settings, list: &[u32], results: &mut [u8]) -> Answer
     requires { ⌜ CountInRange (now list) ⌝ }
-    ensures { λ r. ⌜ BytesPlanned s (now (list .entry)) (now (results .entry)) r (now (results .exit)) ⌝ }
+    ensures { λ r. ⌜ BytesPlanned (request s (now (list .entry))) (now (results .entry)) r (now (results .exit)) ⌝ }
 {
-    let word = terms::setting_out_of_range(s);
-    if word != 0 {
-        return Answer::Setting(word);
+    let mut cells = [0u32; 8192];
+    let mut shown = [0u32; terms::RESULT_WORDS * terms::MOST_SIGNALS];
+    let planned = planner::plan(s, list, &mut cells, &mut shown);
+    let number = terms::number(planned);
+    if number == 6 {
+        return planned;
     }
-    let words = 4 * (list.len() / 5);
+    let words = terms::RESULT_WORDS * terms::count(list);
     if results.len() < 4 * words {
         return Answer::Room((4 * words) as u32);
     }
-    let mut cells = [0u32; 8192];
-    let mut shown = [0u32; 2400];
-    let planned = planner::plan(s, list, &mut cells, &mut shown);
-    if terms::number(planned) != 0 {
+    if number != 0 {
         return planned;
     }
     book::put_words(&shown[..words], results);
     planned
-}
-
-fn setting_at(s: Settings, word: u32) -> u32
-    ensures { λ r. ⌜ r ≡ settingAt s word ⌝ }
-{
-    if word == 2 {
-        return s.cycle;
-    }
-    if word == 3 {
-        return s.slot;
-    }
-    if word == 4 {
-        return s.slots;
-    }
-    if word == 5 {
-        return s.packing;
-    }
-    if word == 6 {
-        return s.payload;
-    }
-    0
 }

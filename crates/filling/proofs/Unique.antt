@@ -1,34 +1,131 @@
--- For each public routine: two outcomes that its contract allows are equal.
+-- Two outcomes of filling that its contract allows for the same input are equal: the answer, each cell and each word of
+-- the results. What is shown depends on the repetitions of the signals alone.
 -- Assumes nothing.
-use mathlib.Core.Path.{_≡_, refl, sym, ap, _∙_}
-use mathlib.Core.List.{List, _∷_, _++_}
-use Prim.Native.Nat.{ℕ}
-use lib.ListN.{length, drop}
+use mathlib.Core.Path.{_≡_, refl, sym, subst, _∙_}
+use mathlib.Core.List.{List, _∷_, List·Memᴰ}
+use mathlib.Core.Logic.{dite}
+use Prim.Native.Nat.{ℕ, zero, suc, _+_, _*_, _-_, _/_, _%_, _≤_, _<_}
+use native.Mathlib.Nat.{le-refl}
+use native.Mathlib.Decide.{ℕ-discrete, decLt}
+use native.Mathlib.Omega.{arith}
+use lib.ListN.{length, getD}
+use lib.Seq.{ext-getD}
+use Rattle.laws.specs.Lowest.{Between, EachTo}
+use Rattle.terms.specs.declared.Settings.{Settings}
+use Rattle.terms.specs.declared.Result.{Result}
+use Rattle.terms.specs.Requests.{Request, PlanRoom, planRoom}
+use Rattle.terms.specs.Lists.{count, signalAt, groupOf}
+use Rattle.terms.specs.Results.{resultSize, resultStart}
+use Rattle.terms.proofs.ResultsLaws.{same-words}
+use Rattle.age.proofs.GivenLaws.{age-given-unique}
+use Rattle.cycles.specs.Frames.{Sends}
 use Rattle.filling.specs.declared.UnitFrame.{UnitFrame}
 use Rattle.filling.specs.declared.Filled.{Filled}
-use Rattle.filling.specs.Rows.{firstFree}
-use Rattle.filling.specs.Runs.{State, room}
-use Rattle.filling.specs.Fills.{Fill, Ran}
-use Rattle.filling.specs.Fills.Fill.{done, fits, troubled}
-use Rattle.filling.specs.Fills.Ran.{filled, idle}
 use Rattle.filling.specs.Ordered.{ordered}
+use Rattle.filling.specs.Ordered.{ordered}
+use Rattle.filling.specs.Runs.{Placed, start}
+use Rattle.filling.specs.Filled.{framesFrom, fillFrom, filled}
+use Rattle.filling.specs.Shown.{cellOf, CellsShow, ResultOf, EachResult, ResultsShow}
+use Rattle.filling.specs.Outcomes.{repetitionIn, FillOutcome}
+use Rattle.filling.specs.Outcomes.FillOutcome.{unfit, short, done}
+use Rattle.filling.proofs.LoadLaws.{needed-same}
+use Rattle.filling.proofs.FilledLaws.{filled-some}
+
+-- ---- of the repetitions of the signals alone
+
+frames-same : (R Q : ℕ → ℕ) (n i : ℕ) → ((j : ℕ) → i ≤ j → j < i + n → R j ≡ Q j) → framesFrom R n i ≡ framesFrom Q n i
+unfolding framesFrom
+frames-same R Q zero i h = refl
+frames-same R Q (suc n) i h =
+    let rest = frames-same R Q n (suc i) (λ j l k. h j (omega arith) (omega arith)) in
+    λ t. record { signal = i; repetition = h i (le-refl i) (omega arith) t } ∷ rest t
+
+pub filled-same : (list : List ℕ) (R Q : ℕ → ℕ) → EachTo (count list) (λ i. R i ≡ Q i) → filled list R ≡ filled list Q
+filled-same list R Q h =
+    let frames = frames-same R Q (count list) 1 (λ j l k. h j (l, omega arith)) in
+    λ t. fillFrom (groupOf list) (λ g. start (needed-same (groupOf list) R Q (count list) h g t)) (ordered (frames t))
+
+-- ---- one list at exit
+
+-- two lists that are equal below n, and from n on as another was
+pub same-list : (n : ℕ) (entry : List ℕ) {a b : List ℕ} → length a ≡ length entry → length b ≡ length entry
+    → ((j : ℕ) → n ≤ j → getD a j 0 ≡ getD entry j 0) → ((j : ℕ) → n ≤ j → getD b j 0 ≡ getD entry j 0)
+    → ((j : ℕ) → j < n → getD a j 0 ≡ getD b j 0) → a ≡ b
+same-list n entry {a} {b} d e later later′ front =
+    ext-getD 0 a b (d ∙ sym e) (λ j l.
+    dite (decLt j n) (front j) (λ h. let past : n ≤ j = omega arith in later j past ∙ sym (later′ j past)))
+
+module _
+    {slots : ℕ}
+    {places : List Placed}
+    {entry a b : List ℕ}
+    (x : CellsShow slots places entry a)
+    (y : CellsShow slots places entry b)
+  where
+    -- if a cell were not the same in both, no frame would have it, and it would be 0 in both
+    same-cell : (k c : ℕ) → Between 1 slots k → c < 64 → cellOf a k c ≡ cellOf b k c
+    same-cell k c w l =
+        dite (ℕ-discrete (cellOf a k c) (cellOf b k c)) (λ e. e) (λ n.
+        let none : (p : Placed) → List·Memᴰ p places → Sends (p .frame) k c → ⊥ =
+        λ p m s. n (x .holds p k c m l s ∙ sym (y .holds p k c m l s)) in
+        x .empty k c w l none ∙ sym (y .empty k c w l none))
+
+    pub cells-one : a ≡ b
+    cells-one =
+        same-list (64 * slots) entry (x .same-length) (y .same-length) (x .later) (y .later) (λ j l.
+        let place : 64 * (1 + j / 64 - 1) + j % 64 ≡ j = omega arith in
+        subst (λ (i : ℕ). getD a i 0 ≡ getD b i 0) place (same-cell (1 + j / 64) (j % 64) (omega arith) (omega arith)))
+
+module _ (s : Settings) (list : List ℕ) where
+  result-one : (p : Placed) {q r : Result} → ResultOf s list p q → ResultOf s list p r → q ≡ r
+  result-one p {q} {r} x y =
+      let frame = x .frame ∙ sym (y .frame) in
+      let age = age-given-unique s (signalAt list (p .signal)) (p .frame) (q .age) (r .age) (x .age) (y .age) in
+      λ t. record { frame = frame t; age = age t }
+
+  -- two rows of words that show one filling agree
+  pub words-one : (R : ℕ → ℕ) (v w : ℕ → ℕ) → EachResult s list (filled list R) v → EachResult s list (filled list R) w → (j : ℕ)
+      → j < resultSize * count list → v j ≡ w j
+  words-one R v w x y j l =
+      let r = filled-some list R (1 + j / resultSize) (omega arith) in
+      let at = resultStart (r .0 .signal) in
+      let place : at + j % resultSize ≡ j = omega (arith, r .2) in
+      subst (λ (i : ℕ). v i ≡ w i) place
+      (same-words (λ d. v (at + d)) (λ d. w (at + d)) (result-one (r .0) (x (r .0) (r .1)) (y (r .0) (r .1))) (j % resultSize) (omega arith))
+
+  pub results-one : (R : ℕ → ℕ) {entry a b : List ℕ}
+      → ResultsShow s list (filled list R) entry a → ResultsShow s list (filled list R) entry b → a ≡ b
+  results-one R {entry} {a} {b} x y =
+      same-list (resultSize * count list) entry (x .same-length) (y .same-length) (x .later) (y .later)
+      (words-one R (λ d. getD a d 0) (λ d. getD b d 0) (x .shown) (y .shown))
+
+  -- the cells and the results of two fillings with the same repetitions
+  pub plan-same : (R Q : ℕ → ℕ) → EachTo (count list) (λ i. R i ≡ Q i) → {entry a b : PlanRoom}
+      → CellsShow (s .slots) (filled list R) (entry .cells) (a .cells)
+      → ResultsShow s list (filled list R) (entry .results) (a .results)
+      → CellsShow (s .slots) (filled list Q) (entry .cells) (b .cells)
+      → ResultsShow s list (filled list Q) (entry .results) (b .results)
+      → a ≡ b
+  plan-same R Q h {entry} {a} {b} cells results cells′ results′ =
+      let e = sym (filled-same list R Q h) in
+      let c = cells-one cells (subst (λ ps. CellsShow (s .slots) ps (entry .cells) (b .cells)) e cells′) in
+      let r = results-one R results (subst (λ ps. ResultsShow s list ps (entry .results) (b .results)) e results′) in
+      λ t. planRoom (c t) (r t)
+
+-- ---- one outcome
+
+pub fill-unique : (x : Request) (words : List ℕ) (lent : PlanRoom) {f g : Filled} {a b : PlanRoom}
+    → FillOutcome x words lent f a → FillOutcome x words lent g b → (f ≡ g) × (a ≡ b)
+fill-unique x words lent (unfit n) (unfit m) = (refl, refl)
+fill-unique x words lent (unfit n) (short h l) = absurd (n h)
+fill-unique x words lent (unfit n) (done h l c r) = absurd (n h)
+fill-unique x words lent (short h l) (unfit n) = absurd (n h)
+fill-unique x words lent (short h l) (short i k) = (refl, refl)
+fill-unique x words lent (short h l) (done i k c r) = absurd (omega arith)
+fill-unique x words lent (done h l c r) (unfit n) = absurd (n h)
+fill-unique x words lent (done h l c r) (short i k) = absurd (omega arith)
+fill-unique x words lent (done h l c r) (done i k d q) =
+    (refl, λ t. planRoom (cells-one c d t) (results-one (x .settings) (x .list) (repetitionIn words) r q t))
 
 pub order-unique : (frames a b : List UnitFrame) → a ≡ ordered frames → b ≡ ordered frames → a ≡ b
 order-unique frames a b p q = p ∙ sym q
-
-fill-unique : {s : State} {fs : List UnitFrame} {v w : List ℕ} {q r : Filled} → Fill s fs v q → Fill s fs w r → (v ≡ w) × (q ≡ r)
-fill-unique done done = (refl, refl)
-fill-unique {s} (fits f p) (fits g q) =
-    let t = fill-unique p q in (ap (λ (l : List ℕ). room s .begun ∷ firstFree (room s .row) ∷ l) (t .0), t .1)
-fill-unique (fits f p) (troubled n) = absurd (n f)
-fill-unique (troubled n) (fits f p) = absurd (n f)
-fill-unique (troubled n) (troubled m) = (refl, refl)
-
--- the answer, and every word of the places
-pub run-unique : (frames : List ℕ) (begun : ℕ) (places : List ℕ) (q r : Filled) (a b : List ℕ)
-    → Ran frames begun places q a → Ran frames begun places r b → (q ≡ r) × (a ≡ b)
-run-unique frames begun places q r a b (filled l p) (filled m t) =
-    let u = fill-unique p t in (u .1, ap (λ (w : List ℕ). w ++ drop (length w) places) (u .0))
-run-unique frames begun places q r a b (filled l p) (idle n) = absurd (n l)
-run-unique frames begun places q r a b (idle n) (filled l p) = absurd (n l)
-run-unique frames begun places q r a b (idle n) (idle m) = (refl, refl)

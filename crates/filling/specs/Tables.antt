@@ -1,46 +1,58 @@
--- A table as the list of its placed frames, for ANY assignment of slots and bases: its cells, its load and its slots.
-use mathlib.Core.List.{List, [], _∷_}
-use Prim.Native.Nat.{ℕ, _*_, _^_, _≤_, _<_, min}
-use Rattle.filling.specs.Sums.{sum, total, same}
-use Rattle.filling.specs.Rows.{takes, share}
+-- Tables of ANY frames, not the planner's own: drawn rightly, and the slots that they use; and "Filling the table" sentence by
+-- sentence, of frames that are shown.
+use mathlib.Core.Path.{_≡_}
+use mathlib.Core.Logic.{_⊎_}
+use Prim.Native.Nat.{ℕ, _+_, _≤_, _<_, min}
+use Rattle.laws.specs.Lowest.{Between}
+use Rattle.laws.specs.Sums.{sum, same}
+use Rattle.terms.specs.declared.Frame.{Frame}
+use Rattle.terms.specs.Ranges.{FrameInRange}
+use Rattle.cycles.specs.Frames.{Sends}
 
--- a frame of repetition 2^exponent with its slot and its base
-pub record Placed : Type 0 where
-  pub exponent : ℕ
-  pub slot : ℕ
-  pub base : ℕ
+-- each of m signals has one frame, `frame i`, in the slots 1 to n
+pub record Drawn (n m : ℕ) (group : ℕ → ℕ) (frame : ℕ → Frame) : Type 0 where
+  pub frames : (i : ℕ) → Between 1 m i → FrameInRange n (frame i)
+  -- collision-free: no two frames share a cell
+  pub apart : (i j k c : ℕ) → Between 1 m i → Between 1 m j → c < 64 → Sends (frame i) k c → Sends (frame j) k c → i ≡ j
+  -- one unit to a slot: "The unit begins with a new slot"
+  pub one-group : (i j : ℕ) → Between 1 m i → Between 1 m j → frame i .slot ≡ frame j .slot → group i ≡ group j
 
--- each entry has the property
-pub data Each {A : Type 0} (P : A → Type 0) : List A → Type 0 where
-  empty : Each P []
-  entry : {x : A} {l : List A} → P x → Each P l → Each P (x ∷ l)
+-- 1 where slot k has the frame of one of m signals, else 0; and how many of the slots 1 to n have one
+abbrev pub taken : (m : ℕ) → (ℕ → Frame) → ℕ → ℕ
+taken m frame k = min 1 (sum (λ i. same (frame (1 + i) .slot) k) m)
 
--- how often a frame takes cycle c of slot k
-abbrev pub cell : Placed → ℕ → ℕ → ℕ
-cell p k c = same (p .slot) k * takes (p .exponent) (p .base) c
+abbrev pub slotsUsed : (n m : ℕ) → (ℕ → Frame) → ℕ
+slotsUsed n m frame = sum (λ k. taken m frame (1 + k)) n
 
--- how often cycle c of slot k is taken
-abbrev pub cells : List Placed → ℕ → ℕ → ℕ
-cells ps k c = total (λ p. cell p k c) ps
+-- frame i goes before frame j: "The frames of a unit go by rising repetition, equal ones by place in the list."
+abbrev pub Before : (group : ℕ → ℕ) → (ℕ → Frame) → (i j : ℕ) → Type 0
+Before group frame i j =
+    (group i ≡ group j)
+    × ((frame i .repetition < frame j .repetition) ⊎ ((frame i .repetition ≡ frame j .repetition) × (i < j)))
 
--- a frame that may stand in a table whose slots are below n
-pub record Valid (n : ℕ) (p : Placed) : Type 0 where
-  pub exponent : p .exponent ≤ 6
-  pub base : p .base < 2 ^ p .exponent
-  pub slot : p .slot < n
+-- cycle c of slot k is in use by the frame of a signal
+abbrev pub InUse : (m : ℕ) → (ℕ → Frame) → (k c : ℕ) → Type 0
+InUse m frame k c = (j : ℕ) × Between 1 m j × Sends (frame j) k c
 
--- a table in slots below n: no cell is taken twice
-pub record Table (n : ℕ) (ps : List Placed) : Type 0 where
-  pub valid : Each (Valid n) ps
-  pub apart : (k c : ℕ) → c < 64 → cells ps k c ≤ 1
-
--- the sum of 64/R over the frames
-abbrev pub load : List Placed → ℕ
-load ps = total (λ p. share (p .exponent)) ps
-
--- 1 where slot k has a frame, else 0; and how many slots below n have one
-abbrev pub taken : List Placed → ℕ → ℕ
-taken ps k = min 1 (total (λ p. same (p .slot) k) ps)
-
-abbrev pub used : List Placed → ℕ → ℕ
-used ps n = sum (taken ps) n
+pub record FillingShown (m : ℕ) (group : ℕ → ℕ) (frame : ℕ → Frame) : Type 0 where
+  -- "Units with a signal go in rising number." "The unit begins with a new slot, ..
+  pub units : (i j : ℕ) → Between 1 m i → Between 1 m j → group i < group j → frame i .slot < frame j .slot
+  -- .. the lowest unused": no slot before a used one is unused
+  pub lowest : (i k : ℕ) → Between 1 m i → Between 1 (frame i .slot) k → (j : ℕ) × Between 1 m j × (frame j .slot ≡ k)
+  -- "A frame goes to the current slot .. else the next slot is begun": never to one before those of the frames before it
+  pub onward : (i j : ℕ) → Between 1 m i → Between 1 m j → Before group frame i j → frame i .slot ≤ frame j .slot
+  -- ".. while that has a free cycle": a slot that a later frame of its unit has left is full
+  pub full :
+      (i j c : ℕ) →
+      Between 1 m i →
+      Between 1 m j →
+      Before group frame i j →
+      frame i .slot < frame j .slot →
+      c < 64 →
+      InUse m frame (frame i .slot) c
+  -- ".. with the first free cycle as its base": those below are taken by frames before it
+  pub first-free :
+      (i c : ℕ) →
+      Between 1 m i →
+      c < frame i .base →
+      (j : ℕ) × Between 1 m j × Before group frame j i × Sends (frame j) (frame i .slot) c

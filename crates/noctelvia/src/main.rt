@@ -9,10 +9,14 @@ use terms::Answer;
 use words::because;
 use words::help;
 
-// A word of a list, or 0 past its end.
-fn word(list: &[u32], at: usize) -> u32 {
-    if at < list.len() {
-        return list[at];
+// Word d of a signal's result, or 0 past the end of the results.
+fn result_word(results: &[u32], signal: u32, d: u32) -> u32 {
+    if signal == 0 {
+        return 0;
+    }
+    let at = terms::RESULT_WORDS * (signal as usize - 1) + d as usize;
+    if at < results.len() {
+        return results[at];
     }
     0
 }
@@ -43,15 +47,14 @@ fn refuse(answer: Answer) {
     because(STDERR_FILENO, answer);
 }
 
-// One signal: number, unit, slot, base, repetition, age.
-fn line(list: &[u32], results: &[u32], i: u32) {
-    let at = i as usize;
-    io::print_decimal(STDOUT_FILENO, i as u64 + 1);
-    spaced(word(list, 5 * at));
-    spaced(word(results, 4 * at));
-    spaced(word(results, 4 * at + 1));
-    spaced(word(results, 4 * at + 2));
-    spaced(word(results, 4 * at + 3));
+// One signal: number, unit; and of its result slot, base, repetition, age.
+fn line(list: &[u32], results: &[u32], signal: u32) {
+    number(signal);
+    spaced(terms::signal_at(list, signal).unit);
+    spaced(result_word(results, signal, 0));
+    spaced(result_word(results, signal, 1));
+    spaced(result_word(results, signal, 2));
+    spaced(result_word(results, signal, 3));
     io::write_all(STDOUT_FILENO, b"\n");
 }
 
@@ -62,15 +65,15 @@ fn show(list: &[u32], results: &[u32], signals: u32, used: u32, slots: u32) {
     spaced(used);
     spaced(slots);
     io::write_all(STDOUT_FILENO, b"\n");
-    let mut i = 0;
-    while i < signals {
-        line(list, results, i);
-        i += 1;
+    let mut signal = 0;
+    while signal < signals {
+        signal += 1;
+        line(list, results, signal);
     }
 }
 
 fn plan(book: &[u8]) {
-    let mut list = [0u32; 3000];
+    let mut list = [0u32; terms::SIGNAL_WORDS * terms::MOST_SIGNALS];
     let reading = book::read(book, &mut list);
     let read = reading.answer;
     if terms::number(read) != 0 {
@@ -80,10 +83,10 @@ fn plan(book: &[u8]) {
     let signals = terms::place(read);
     let s = reading.settings;
     let mut cells = [0u32; 8192];
-    let mut results = [0u32; 2400];
+    let mut results = [0u32; terms::RESULT_WORDS * terms::MOST_SIGNALS];
     let answer = planner::plan(
         s,
-        first(&list, 5 * (signals as usize)),
+        first(&list, terms::SIGNAL_WORDS * (signals as usize)),
         &mut cells,
         &mut results,
     );

@@ -73,7 +73,7 @@ fn draw(s: Settings, list: &[u32], cells: &[u32], results: &[u32], signals: u32,
 }
 
 fn plan(book: &[u8]) {
-    let mut list = [0u32; 3000];
+    let mut list = [0u32; terms::SIGNAL_WORDS * terms::MOST_SIGNALS];
     let reading = book::read(book, &mut list);
     let read = reading.answer;
     if terms::number(read) != 0 {
@@ -83,10 +83,10 @@ fn plan(book: &[u8]) {
     let signals = terms::place(read);
     let s = reading.settings;
     let mut cells = [0u32; 8192];
-    let mut results = [0u32; 2400];
+    let mut results = [0u32; terms::RESULT_WORDS * terms::MOST_SIGNALS];
     let answer = planner::plan(
         s,
-        first(&list, 5 * (signals as usize)),
+        first(&list, terms::SIGNAL_WORDS * (signals as usize)),
         &mut cells,
         &mut results,
     );

@@ -4,6 +4,7 @@ use crate::sheet::across;
 use crate::sheet::down;
 use crate::text::colour;
 use crate::text::number;
+use crate::text::result_word;
 use crate::text::text;
 use crate::text::word;
 use crate::units::colour_of;
@@ -83,11 +84,11 @@ pub fn grid(slots: u32) {
 }
 
 // The signal's number in a cell of the table, or 0.
-fn cell(cells: &[u32], slot: u32, cycle: u32) -> u64 {
+fn cell(cells: &[u32], slot: u32, cycle: u32) -> u32 {
     if slot == 0 {
         return 0;
     }
-    word(cells, 64 * (slot as usize - 1) + cycle as usize) as u64
+    word(cells, 64 * (slot as usize - 1) + cycle as usize)
 }
 
 fn draw_cell(slot: u32, cycle: u32) {
@@ -97,7 +98,7 @@ fn draw_cell(slot: u32, cycle: u32) {
 }
 
 // Each cycle of the slot that holds the signal.
-fn draw_cells(cells: &[u32], slot: u32, signal: u64) {
+fn draw_cells(cells: &[u32], slot: u32, signal: u32) {
     let mut cycle = 0;
     while cycle < 64 {
         if cell(cells, slot, cycle) == signal {
@@ -108,37 +109,36 @@ fn draw_cells(cells: &[u32], slot: u32, signal: u64) {
 }
 
 // What a browser shows under the pointer.
-fn tell(list: &[u32], results: &[u32], i: u32) {
-    let at = i as usize;
-    number(b"<title>signal ", i as u64 + 1);
-    number(b", unit ", word(list, 5 * at) as u64);
-    number(b", slot ", word(results, 4 * at) as u64);
-    number(b", base ", word(results, 4 * at + 1) as u64);
-    number(b", repetition ", word(results, 4 * at + 2) as u64);
-    number(b", age ", word(results, 4 * at + 3) as u64);
-    number(b", bound ", word(list, 5 * at + 4) as u64);
+fn tell(list: &[u32], results: &[u32], signal: u32) {
+    let x = terms::signal_at(list, signal);
+    number(b"<title>signal ", signal as u64);
+    number(b", unit ", x.unit as u64);
+    number(b", slot ", result_word(results, signal, 0) as u64);
+    number(b", base ", result_word(results, signal, 1) as u64);
+    number(b", repetition ", result_word(results, signal, 2) as u64);
+    number(b", age ", result_word(results, signal, 3) as u64);
+    number(b", bound ", x.bound as u64);
     text(b"</title>");
 }
 
-// The frame of the signal that is at place i of the list, counted from 0.
-fn frame(list: &[u32], cells: &[u32], results: &[u32], i: u32, ranks: &[u32; 256]) {
-    let at = i as usize;
+// The frame of a signal.
+fn frame(list: &[u32], cells: &[u32], results: &[u32], signal: u32, ranks: &[u32; 256]) {
     text(b"<g");
-    colour(colour_of(ranks, word(list, 5 * at)));
+    colour(colour_of(ranks, terms::signal_at(list, signal).unit));
     text(b">");
-    tell(list, results, i);
+    tell(list, results, signal);
     text(b"<path d=\"");
-    draw_cells(cells, word(results, 4 * at), i as u64 + 1);
+    draw_cells(cells, result_word(results, signal, 0), signal);
     text(b"\"/></g>\n");
 }
 
 // All frames. The one under the pointer turns black, so that its cycles are seen together.
 pub fn frames(list: &[u32], cells: &[u32], results: &[u32], signals: u32, ranks: &[u32; 256]) {
     text(b"<style>#frames g:hover{fill:#000000}</style>\n<g id=\"frames\">\n");
-    let mut i = 0;
-    while i < signals {
-        frame(list, cells, results, i, ranks);
-        i += 1;
+    let mut signal = 0;
+    while signal < signals {
+        signal += 1;
+        frame(list, cells, results, signal, ranks);
     }
     text(b"</g>\n");
 }

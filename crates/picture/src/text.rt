@@ -34,3 +34,14 @@ pub fn word(list: &[u32], at: usize) -> u32 {
     }
     0
 }
+
+// Word d of a signal's result, or 0 past the end of the results.
+pub fn result_word(results: &[u32], signal: u32, d: u32) -> u32 {
+    if signal == 0 {
+        return 0;
+    }
+    word(
+        results,
+        terms::RESULT_WORDS * (signal as usize - 1) + d as usize,
+    )
+}

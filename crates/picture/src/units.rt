@@ -1,6 +1,6 @@
 // The units that have a signal: how many each has, its slots, and its colour.
 ghost use Prim.Native.Nat.{_≤_};
-use crate::text::word;
+use crate::text::result_word;
 
 // Sixteen colours that are told apart beside each other and upon white. A unit takes that of its rank among the units
 // with a signal, so that units side by side differ, whatever their numbers are.
@@ -55,16 +55,15 @@ pub fn share_of(list: &[u32], results: &[u32], signals: u32, unit: u32) -> Share
     // No slot is above 128.
     let mut first = 128;
     let mut last = 0;
-    let mut i = 0;
-    while i < signals {
-        let at = i as usize;
-        if word(list, 5 * at) == unit {
-            let slot = word(results, 4 * at);
+    let mut signal = 0;
+    while signal < signals {
+        signal += 1;
+        if terms::signal_at(list, signal).unit == unit {
+            let slot = result_word(results, signal, 0);
             first = lower(first, slot);
             last = higher(last, slot);
             count += 1;
         }
-        i += 1;
     }
     Share {
         signals: count,

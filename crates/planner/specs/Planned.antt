@@ -1,28 +1,23 @@
 -- What planning gives, for all inputs: an answer, the cells and the results at exit.
-use mathlib.Core.List.{List}
+use mathlib.Core.Path.{_≡_}
 use Prim.Native.Nat.{ℕ}
-use lib.ListN.{length}
-use Rattle.terms.specs.declared.Settings.{Settings}
 use Rattle.terms.specs.declared.Answer.{Answer}
-use Rattle.terms.specs.declared.Answer.the-variants.{Done}
-use Rattle.planner.specs.Lists.{Repetitions}
-use Rattle.planner.specs.Asked.{Passed, Refused, questions}
-use Rattle.planner.specs.Filled.{needed, filled, CellsShow, ResultsShow}
+use Rattle.terms.specs.Answers.{numberOf, Answers}
+use Rattle.terms.specs.Requests.{Request, PlanRoom}
+use Rattle.rule.specs.Rule.{Repetitions}
+use Rattle.filling.specs.Filled.{filled}
+use Rattle.filling.specs.Shown.{CellsShow, ResultsShow}
+use Rattle.planner.specs.Rows.{Needed, planningRows}
 
--- a plan of the list with repetitions R
-pub record Plan (s : Settings) (list : List ℕ) (R : ℕ → ℕ) (cells results cells′ results′ : List ℕ) : Type 0 where
-  pub repetitions : Repetitions s list R
-  pub table : CellsShow (s .slots) R (filled list R) cells cells′
-  pub shown : ResultsShow s list R (filled list R) results results′
+-- the cells and the results show the filling with repetitions R, which are the rule's
+pub record PlanShown (x : Request) (lent exit : PlanRoom) : Type 0 where
+  pub R : ℕ → ℕ
+  pub repetitions : Repetitions (x .settings) (x .list) R
+  pub cells : CellsShow (x .settings .slots) (filled (x .list) R) (lent .cells) (exit .cells)
+  pub results : ResultsShow (x .settings) (x .list) (filled (x .list) R) (lent .results) (exit .results)
 
-pub data Planned (s : Settings) (list cells results : List ℕ) : Answer → List ℕ → List ℕ → Type 0 where
+pub record Planned (x : Request) (lent : PlanRoom) (a : Answer) (exit : PlanRoom) : Type 0 where
+  pub answer : Answers (planningRows x lent) (Needed (x .settings) (x .list)) a
   -- "A refusal changes nothing that was lent."
-  refused :
-      {a : Answer} →
-      Refused (questions s list (length cells) (length results) (needed list)) a →
-      Planned s list cells results a cells results
-  done :
-      {cells′ results′ : List ℕ} (R : ℕ → ℕ) →
-      Passed (questions s list (length cells) (length results) (needed list)) →
-      Plan s list R cells results cells′ results′ →
-      Planned s list cells results (Done (needed list R)) cells′ results′
+  pub refused : (numberOf a ≡ 0 → ⊥) → exit ≡ lent
+  pub done : numberOf a ≡ 0 → PlanShown x lent exit

@@ -8,14 +8,16 @@ use Prim.Native.Nat.{ℕ, _+_, _*_, _-_, _/_, _%_, _<_}
 use native.Mathlib.Nat.{mod-add-div', mod-lt}
 use native.Mathlib.Omega.{arith}
 use lib.Dec.{lit≤}
-use Rattle.laws.specs.RemainderLaws.{same-remainder, splits-remainder}
+use Rattle.laws.proofs.RemainderLaws.{same-remainder, splits-remainder}
 use Rattle.terms.specs.declared.Settings.{Settings}
 use Rattle.terms.specs.declared.Frame.{Frame}
-use Rattle.terms.specs.Ranges.{Between, Repetition, FrameInRange}
-use Rattle.terms.specs.RepetitionLaws.{repetition-most, repetition-multiple}
+use Rattle.laws.specs.Lowest.{Between}
+use Rattle.terms.specs.Ranges.{Repetition, FrameInRange}
+use Rattle.terms.proofs.RepetitionLaws.{repetition-most, repetition-multiple}
 use Rattle.age.specs.Age.{Start, firstStart, spanOf}
-use Rattle.cycles.specs.FrameLaws.{remainder-named}
-use Rattle.promises.specs.Shows.{cellOf, Sends}
+use Rattle.cycles.proofs.FrameLaws.{remainder-named}
+use Rattle.cycles.specs.Frames.{Sends}
+use Rattle.filling.specs.Shown.{cellOf}
 use Rattle.promises.specs.Demand2.{StartsAt}
 
 -- a repetition divides 64, so a cycle and its remainder by 64 leave the same by it
@@ -24,7 +26,7 @@ same-cycle R n r =
     let q = repetition-multiple R 64 r (6, lit≤ tt, refl) (repetition-most R r) in
     same-remainder R (n % 64) n (n / 64 * q .0, 0, omega (arith, mod-add-div' n 64, ap (λ (z : ℕ). n / 64 * z) (q .1)))
 
-module _ (s : Settings) (f : Frame) (h : FrameInRange s f) where
+module _ (s : Settings) (f : Frame) (h : FrameInRange (s .slots) f) where
   pub starts-named : (t : ℕ) → Start (firstStart s f) (spanOf s f) t ↔ StartsAt s (Sends f) t
   starts-named t = (
     (λ start.
@@ -45,7 +47,7 @@ module _ (s : Settings) (f : Frame) (h : FrameInRange s f) where
           )
 
 -- so where cells show the frames of m signals, their starts are the cells that show them
-module _ (s : Settings) (m : ℕ) (frame : ℕ → Frame) (cells : List ℕ) (frames : (i : ℕ) → Between 1 m i → FrameInRange s (frame i))
+module _ (s : Settings) (m : ℕ) (frame : ℕ → Frame) (cells : List ℕ) (frames : (i : ℕ) → Between 1 m i → FrameInRange (s .slots) (frame i))
     (shown : (k c i : ℕ) → Between 1 (s .slots) k → c < 64 → Between 1 m i → (cellOf cells k c ≡ i) ↔ Sends (frame i) k c) where
   pub starts-shown : (i t : ℕ) → Between 1 m i
       → Start (firstStart s (frame i)) (spanOf s (frame i)) t ↔ StartsAt s (λ k c. Between 1 (s .slots) k × (cellOf cells k c ≡ i)) t

@@ -1,179 +1,116 @@
--- What planning asks is decided: for every input each question holds or its answer is found, and so the repetitions,
--- as the planner finds them, by the laws that the proofs of its loops cite.
+-- What planning asks is decided: for every input each row holds or its place is found, and the repetitions with them.
 -- Assumes nothing.
-use mathlib.Core.Path.{_≡_, refl, subst}
+use mathlib.Core.Path.{_≡_, refl}
 use mathlib.Core.Bool.{Bool, true, false}
 use mathlib.Core.List.{List, [], _∷_}
-use mathlib.Core.Logic.{_⊎_, inl, inr, ⊎-elim, dite, Dec·and}
-use Prim.Native.Nat.{ℕ, zero, suc, _+_, _*_, _-_, _/_, _%_, _≤_, _<_}
-use native.Mathlib.Decide.{ℕ-discrete, decLe, decLt, map-dec}
-use native.Mathlib.Nat.{lt-of-not-le}
+use mathlib.Core.Logic.{dite, Dec·and}
+use Prim.Native.Nat.{ℕ, zero, suc, _*_, _/_, _≤_}
+use native.Mathlib.Decide.{ℕ-discrete, decLe, map-dec}
 use native.Mathlib.Omega.{arith}
-use lib.ListN.{length, set, replicate, length-set, length-replicate}
+use lib.ListN.{length}
 use Rattle.laws.specs.Says.{Says}
+use Rattle.laws.specs.Rows.{Row}
+use Rattle.laws.specs.Lowest.{Between}
+use Rattle.laws.proofs.DecidedLaws.{Decided, first-row, asked, asked-each}
 use Rattle.terms.specs.declared.Settings.{Settings}
 use Rattle.terms.specs.declared.Signal.{Signal}
-use Rattle.terms.specs.declared.Answer.{Answer}
-use Rattle.terms.specs.declared.Answer.the-variants.{Done, Count, Setting, Field, Bound, Slots, Room}
-use Rattle.terms.specs.Ranges.{Between, FirstFailing, settingRanges, SettingsInRange, LowestOutOfRange, SignalInRange, Valid}
-use Rattle.terms.specs.RangesLaws.{settings-granted, settings-refused}
-use Rattle.rule.specs.Rule.{Keeps, segment, Largest}
-use Rattle.rule.specs.RuleLaws.{Left, left-start, left-repetition, left-half, left-found, left-none}
-use Rattle.rule.specs.RuleTests.{keeps-flag, keeps-says}
-use Rattle.planner.specs.Lists.{CountInRange, count, signalAt, EachSignal, Kept}
-use Rattle.planner.specs.ListsLaws.{Reached, reached-first, reached-next, all-have, stops, FoundIn, found-next, found-all, found-not}
-use Rattle.planner.specs.Asked.{questions, signalQuestions}
-use Rattle.planner.specs.Judged.{LowestOrNone, repetitionIn, RepetitionsFound, Judged}
-use Rattle.planner.specs.JudgedLaws.{each-of, refused-7, refused-8, refused-9, judged-done, judged-all}
-use Rattle.planner.specs.Filled.{needed}
+use Rattle.terms.specs.Requests.{Request, PlanRoom}
+use Rattle.terms.specs.Answers.{roomRow}
+use Rattle.terms.specs.Ranges.{settingRows, SettingsInRange, LowestOutOfRange, settingRow, SignalInRange, Valid}
+use Rattle.terms.specs.Lists.{count, countRow, signalAt, EachSignal}
+use Rattle.terms.specs.Results.{resultSize}
+use Rattle.rule.specs.Rule.{Keeps, segment, Largest, Kept, Repetitions}
+use Rattle.rule.proofs.RuleLaws.{Left, left-start, left-repetition, left-half, left-found, left-none}
+use Rattle.rule.proofs.RuleTests.{keeps-flag, keeps-says}
+use Rattle.terms.proofs.RepetitionLaws.{repetition-positive}
+use Rattle.terms.proofs.RangesDecided.{settings-decided, settings-or-not, signal-or-not, count-or-not}
+use Rattle.filling.specs.Filled.{needed}
+use Rattle.planner.specs.Rows.{boundRow, slotsRow, signalRows, planningRows}
+use Rattle.planner.proofs.PlannedLaws.{needed-same}
 
--- a loop that goes on from a larger number each time, and stops past m at the latest, has an end
-pub ends : {On : ℕ → Type 0} {End : Type 0} (m : ℕ) → ((i : ℕ) → i ≤ m → On i → ((j : ℕ) × (i < j) × On j) ⊎ End)
-    → ((i : ℕ) → m < i → On i → End) → (i : ℕ) → On i → End
-ends {On} {End} m turn last i o = go (suc m) i (omega arith) o
-  where
-    go : (n i : ℕ) → m < i + n → On i → End
-    go zero i h o = last i (omega arith) o
-    go (suc n) i h o =
-        dite (decLe i m) (λ l. ⊎-elim (λ r. go n (r .0) (omega (arith, r .1)) (r .2)) (λ e. e) (turn i l o))
-        (λ l. last i (lt-of-not-le l) o)
-
--- ---- ranges
-
-between : (low high x : ℕ) → Dec (Between low high x)
-between low high x = Dec·and (decLe low x) (decLe x high)
-
--- each range of a list holds or not
-abbrev Decided : List (ℕ × Type 0) → Type 0
-Decided [] = Unit {0}
-Decided (r ∷ rs) = Dec (r .1) × Decided rs
-
-first-failing : (rs : List (ℕ × Type 0)) → Decided rs → (w : ℕ) × FirstFailing rs w
-first-failing [] d = (0, refl)
-first-failing (r ∷ rs) d =
-    dite (d .0) (λ h. let q = first-failing rs (d .1) in (q .0, inr (h, q .1))) (λ n. (r .0, inl (n, refl)))
-
-pub lowest-setting : (s : Settings) → (w : ℕ) × LowestOutOfRange s w
-lowest-setting s =
-    first-failing (settingRanges s) (
-      between 10 16000 (s .cycle),
-      (
-        between 1 16000 (s .slot),
-        (
-          Dec·and (between 2 128 (s .slots)) (decLe (s .slots * s .slot) (s .cycle)),
-          (decLe (s .packing) 16000, (between 1 127 (s .payload), tt)),
-        ),
-      ),
-    )
-
-signal-or-not : (s : Settings) (x : Signal) → Dec (SignalInRange s x)
-signal-or-not s x =
-    map-dec (λ h. record { unit = h .0; period = h .1 .0; offset = h .1 .1 .0; size = h .1 .1 .1 .0; bound = h .1 .1 .1 .1 })
-    (λ r. (r .unit, (r .period, (r .offset, (r .size, r .bound)))))
-    (Dec·and (between 1 255 (x .unit))
-    (Dec·and (between 1 100000000 (x .period))
-    (Dec·and (decLt (x .offset) (x .period))
-    (Dec·and (between 1 (16 * s .payload) (x .size)) (between 1 (x .period) (x .bound))))))
-
-count-or-not : (list : List ℕ) → Dec (CountInRange list)
-count-or-not list =
-    map-dec (λ h. record { whole = h .0; few = h .1 }) (λ c. (c .whole, c .few))
-    (Dec·and (ℕ-discrete (length list % 5) 0) (decLe (length list) 3000))
-
--- ---- signals
-
-module _ (s : Settings) (list : List ℕ) where
-  lowest-signal : (i : ℕ) × LowestOrNone list (SignalInRange s) i
-  lowest-signal =
-      ends {On = Reached list (λ j. SignalInRange s (signalAt list j))} (count list)
-      (λ i l o.
-      dite (signal-or-not s (signalAt list i)) (λ p. inl (i + 1, omega arith, reached-next list _ i o l p))
-      (λ f. inr (i, stops list (SignalInRange s) i o l f)))
-      (λ i l o. (0, all-have list (SignalInRange s) i o l)) 1 (reached-first list _)
+-- ---- repetitions
 
 -- a flag that says a fact decides it
 decided : {P : Type 0} (b : Bool) → Says P b → Dec P
 decided true p = yes p
 decided false n = no n
 
--- a signal's repetition, from the largest down
-repetition-of : (s : Settings) (x : Signal) → Valid s x → (r : ℕ) × Largest (Keeps s x (segment s)) r
-repetition-of s x v =
-    ends {On = λ i. (r : ℕ) × (r + i ≡ 64) × Left P r} 63
-    (λ i l o.
-    let r = o .0 in
-    let n : r ≡ 0 → ⊥ = λ z. omega (arith, o .1) in
-    dite (decided (keeps-flag s x r) (keeps-says s x r v (left-repetition P r (o .2) n)))
-    (λ p. inr (r, left-found P r (o .2) n p))
-    (λ f. inl (64 - r / 2, omega (arith, o .1), (r / 2, omega (arith, o .1), left-half P r (o .2) n f))))
-    (λ i l o. (0, left-none P (o .0) (o .2) (omega (arith, o .1)))) 0 (64, refl, left-start P)
+-- a signal's repetition, from the largest down: so many halvings are left at most
+pub repetition-of : (s : Settings) (x : Signal) → Valid s x → (r : ℕ) × Largest (Keeps s x (segment s)) r
+repetition-of s x v = halving 64 64 (omega arith) (left-start P)
   where
     P : ℕ → Type 0
     P = Keeps s x (segment s)
 
-module _ (s : Settings) (list : List ℕ) (h : SettingsInRange s) where
-  -- signal after signal, each found repetition put among the words
-  repetitions-of : EachSignal list (SignalInRange s) → (r : ℕ) × (words : List ℕ) × RepetitionsFound s list r words
-  repetitions-of signals =
-      ends {On = λ i. (words : List ℕ) × (count list ≤ length words) × Reached list (FoundIn s list words) i}
-      (count list)
-      (λ i l o.
-      let words = o .0 in
-      let x = signalAt list i in
-      let g = repetition-of s x (record { settings = h; signal = signals i (o .2 .first, l) }) in
-      dite (ℕ-discrete (g .0) 0)
-      (λ z. inr (i, words, found-not s list words i (o .2) l (subst (Largest (Keeps s x (segment s))) z (g .1))))
-      (λ n.
-      inl (
-        i + 1,
-        omega arith,
-        (
-          set words (i - 1) (g .0),
-          omega (arith, o .1, length-set words (i - 1) (g .0)),
-          found-next s list words i (g .0) (omega (arith, o .1, o .2 .first)) (o .2) l (g .1) (omega arith),
-        ),
-      )))
-      (λ i l o. (0, o .0, found-all s list (o .0) i (o .2) l)) 1
-      (replicate (count list) 0, omega (arith, length-replicate {A = ℕ} (count list) 0), reached-first list _)
+    halving : (n r : ℕ) → r ≤ n → Left P r → (r : ℕ) × Largest P r
+    halving zero r h l = (0, left-none P r l (omega arith))
+    halving (suc n) r h l =
+        dite (ℕ-discrete r 0) (λ z. (0, left-none P r l z)) (λ some.
+        dite (decided (keeps-flag s x r) (keeps-says s x r v (left-repetition P r l some))) (λ p. (r, left-found P r l some p))
+        (λ f. halving n (r / 2) (omega arith) (left-half P r l some f)))
+
+-- some repetition keeps the bound, or none does
+kept-or-not : (s : Settings) (x : Signal) → Valid s x → Dec (Kept s x)
+kept-or-not s x v =
+    let r = repetition-of s x v in
+    dite (ℕ-discrete (r .0) 0)
+    (λ z. no (λ k. omega (arith, z, r .1 .largest (k .0) (k .1) (k .2), repetition-positive (k .0) (k .1))))
+    (λ n. let h = r .1 .has n in yes (r .0, h .0, h .1))
+
+module _ (s : Settings) (list : List ℕ) (settings : SettingsInRange s) where
+  -- the repetitions of all signals, 1 where there is none
+  pub repetitions-exist : EachSignal list (SignalInRange s) → (R : ℕ → ℕ) × Repetitions s list R
+  repetitions-exist signals = (R, R-is)
+    where
+      found : (i : ℕ) → Dec (Between 1 (count list) i) → ℕ
+      found i (yes b) = repetition-of s (signalAt list i) (record { settings = settings; signal = signals i b }) .0
+      found i (no n) = 1
+
+      R : ℕ → ℕ
+      R i = found i (Dec·and (decLe 1 i) (decLe i (count list)))
+
+      found-is : (i : ℕ) (d : Dec (Between 1 (count list) i)) → Between 1 (count list) i → Largest (Keeps s (signalAt list i) (segment s)) (found i d)
+      found-is i (yes b) c = repetition-of s (signalAt list i) (record { settings = settings; signal = signals i b }) .1
+      found-is i (no n) c = absurd (n c)
+
+      R-is : Repetitions s list R
+      R-is i b = found-is i (Dec·and (decLe 1 i) (decLe i (count list))) b
 
   -- 7, 8 and 9
-  abbrev Verdict : Type 0
-  Verdict = (a : Answer) × (words : List ℕ) × Judged s list (signalQuestions s list (needed list)) a words
-
-  of-signals : Verdict
-  of-signals = dite (ℕ-discrete (low .0) 0) ranged (λ n. (Field (low .0), [], refused-7 s list [] (low .0) (low .1) n))
+  pub signals-decided : Decided (signalRows s list)
+  signals-decided =
+      asked-each 7 (count list) (λ i. SignalInRange s (signalAt list i)) (boundRow s list ∷ slotsRow s list ∷ [])
+      (λ i b. signal-or-not s (signalAt list i)) (λ signals.
+      asked-each 8 (count list) (λ i. Kept s (signalAt list i)) (slotsRow s list ∷ [])
+      (λ i b. kept-or-not s (signalAt list i) (record { settings = settings; signal = signals i b })) (λ kept.
+      let r = repetitions-exist signals in
+      asked (slotsRow s list) [] (slots-or-not (r .0) (r .1)) (needed list (r .0), (r .0, r .1, refl)) (λ h. tt)))
     where
-      low : (i : ℕ) × LowestOrNone list (SignalInRange s) i
-      low = lowest-signal s list
+      slots-or-not : (R : ℕ → ℕ) → Repetitions s list R → Dec ((Q : ℕ → ℕ) → Repetitions s list Q → needed list Q ≤ s .slots)
+      slots-or-not R r =
+          map-dec (λ h Q q. omega (arith, h, needed-same s list Q q R r)) (λ all. all R r) (decLe (needed list R) (s .slots))
 
-      ranged : low .0 ≡ 0 → Verdict
-      ranged z =
-          let signals = each-of list (SignalInRange s) (low .0) (low .1) z in
-          let found = repetitions-of signals in
-          let words = found .1 in
-          let n = needed list (repetitionIn words) in
-          dite (ℕ-discrete (found .0) 0)
-          (λ y.
-          let kept = each-of list (Kept s) (found .0) (found .2 .lowest) y in
-          dite (decLe n (s .slots)) (λ l. (Done n, words, judged-done s list words signals kept (found .2 .all y) l))
-          (λ l. (Slots n, words, refused-9 s list words signals kept (found .2 .all y) (lt-of-not-le l))))
-          (λ y. (Bound (found .0), words, refused-8 s list words (found .0) signals (found .2 .lowest) y))
+-- the lowest setting word out of range, or 0
+lowest-setting : (s : Settings) → (w : ℕ) × LowestOutOfRange s w
+lowest-setting s =
+    let r = first-row (settingRows s) (λ p. p ≡ 0) (settings-decided s) (λ h. (0, refl)) in (r .1, (r .0, r .2))
 
--- all that planning asks, with so many cells and words of results lent: the first refusal, or the repetitions
-pub judged-exists : (s : Settings) (list : List ℕ) (cells results : ℕ)
-    → (a : Answer) × (words : List ℕ) × Judged s list (questions s list cells results (needed list)) a words
-judged-exists s list cells results =
-    let low = lowest-setting s in
-    dite (ℕ-discrete (low .0) 0)
-    (λ z.
-    let h = settings-granted s (low .0) (low .1) z in
-    dite (count-or-not list)
-    (λ c.
-    dite (decLe (64 * s .slots) cells)
-    (λ l.
-    dite (decLe (4 * count list) results)
-    (λ m. let v = of-signals s list h in (v .0, v .1, judged-all s list (v .1) cells results (v .0) h c l m (v .2)))
-    (λ n. (Room (4 * count list), [], inl (inr (h, inr (c, inr (l, inl (n, refl))))))))
-    (λ n. (Room (64 * s .slots), [], inl (inr (h, inr (c, inl (n, refl)))))))
-    (λ n. (Count, [], inl (inr (h, inl (n, refl))))))
-    (λ n. (Setting (low .0), [], inl (inl (settings-refused s (low .0) (low .1) n, (low .0, low .1, refl)))))
+-- 6, and what is asked where it is not given
+pub after-settings : (s : Settings) (rest : List Row) → (SettingsInRange s → Decided rest) → Decided (settingRow s ∷ rest)
+after-settings s rest = asked (settingRow s) rest (settings-or-not s) (lowest-setting s)
+
+-- 10
+pub after-room : (needs lent : ℕ) (rest : List Row) → Decided rest → Decided (roomRow needs lent ∷ rest)
+after-room needs lent rest d = asked (roomRow needs lent) rest (decLe needs lent) (needs, refl) (λ h. d)
+
+-- 6, 4 and 10, and then those of the signals
+pub planning-decided : (x : Request) (l : PlanRoom) → Decided (planningRows x l)
+planning-decided x l =
+    let s = x .settings in
+    let list = x .list in
+    let results = roomRow (resultSize * count list) (length (l .results)) ∷ signalRows s list in
+    let cells = roomRow (64 * s .slots) (length (l .cells)) ∷ results in
+    after-settings s (countRow list ∷ cells) (λ settings.
+    asked (countRow list) cells (count-or-not list) (0, refl) (λ right.
+    after-room (64 * s .slots) (length (l .cells)) results
+    (after-room (resultSize * count list) (length (l .results)) (signalRows s list) (signals-decided s list settings))))

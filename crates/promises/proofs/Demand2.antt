@@ -1,54 +1,54 @@
 -- Every routine keeps demand 2: plans over words and of a book; and books that are read and written, also from C.
 -- Assumes nothing.
-use mathlib.Core.Path.{_≡_, refl, _∙_, sym, ap, subst}
-use mathlib.Core.Bool.{Bool, true, false}
-use mathlib.Core.List.{List, [], _∷_, _++_}
-use mathlib.Core.Logic.{_⊎_, inl, inr, ⊎-elim}
-use Prim.Native.Nat.{ℕ, _*_, _≤_}
+use mathlib.Core.Path.{_≡_, _∙_, sym, ap, subst}
+use mathlib.Core.List.{List, [], _∷_}
+use mathlib.Core.Logic.{_⊎_, inl, inr, ⊎-elim, dite}
+use Prim.Native.Nat.{ℕ, _*_, _<_}
+use native.Mathlib.Decide.{ℕ-discrete, decLt}
 use native.Mathlib.Omega.{arith}
-use lib.ListN.{length, take, drop}
+use lib.ListN.{length, getD, take}
+use Rattle.laws.specs.Rows.{Row, FirstRow, Hold}
+use Rattle.laws.specs.Lowest.{Between}
+use Rattle.laws.proofs.RowLaws.{front-number, past}
 use Rattle.terms.specs.declared.Settings.{Settings}
-use Rattle.terms.specs.declared.Answer.{Answer}
-use Rattle.terms.specs.declared.Answer.the-variants.{Done, Length, Check, Kind, Count, Zero, Setting, Field, Bound, Slots, Room, Taken}
-use Rattle.terms.specs.Answers.{numberOf, placeOf}
-use Rattle.terms.specs.Ranges.{Between}
-use Rattle.planner.specs.Lists.{CountInRange, count, signalAt}
-use Rattle.book.specs.Blocks.{blocksFor}
-use Rattle.book.specs.Reading.{signalsOf, sound, settingsIn, fiveZeros, listIn}
+use Rattle.terms.specs.Answers.{numberOf, placeOf, roomRow}
+use Rattle.terms.specs.Requests.{Request}
+use Rattle.terms.specs.Ranges.{settingsFrom, settingWord}
+use Rattle.terms.specs.Lists.{signalSize, count}
+use Rattle.book.specs.Words.{AllBelow}
+use Rattle.book.specs.Reading.{signalsOf, settingsIn, fiveZeros, listIn, bookRows}
 use Rattle.book.specs.Outcomes.{ReadOutcome, WriteOutcome}
-use Rattle.book.proofs.SoundLaws.{sound-facts}
-use Rattle.book.proofs.AnswerLaws.{read-given, write-filled, settings-some, settings-none}
-use Rattle.book.proofs.RoundTrips.{write-then-read, read-then-write, read-facts}
-use Rattle.promises.specs.Calls.{Request, Return, WhereDone, Tells, Plans, PlansList, PlansBook, Reads, ReadsFromC, Writes, WritesFromC}
-use Rattle.promises.specs.Rows.{Row, FirstRow, Hold, roomRow, bookRows, writingRows}
-use Rattle.promises.specs.Shows.{frameOf, ageOf, overWords}
-use Rattle.promises.specs.Demand2.{AgeShown, Demand2Planning, Demand2Editor, Demand2Books}
-use Rattle.promises.proofs.Accepted.{ages-shown}
-use Rattle.promises.proofs.Bytes.{book-bytes}
+use Rattle.book.proofs.SoundLaws.{sound-length, sound-or-not}
+use Rattle.editor.specs.Rows.{resultBytes}
+use Rattle.book.proofs.ReadLaws.{read-gives}
+use Rattle.book.proofs.RoundTrips.{write-then-read, read-then-write}
+use Rattle.promises.specs.Calls.{Return, WhereDone, Plans, PlansList, PlansBook, Reads, ReadsFromC, Writes, WritesFromC}
+use Rattle.promises.specs.Shows.{frameOf, overWords}
+use Rattle.promises.specs.Demand2.{Demand2Planning, Demand2Editor, Demand2Books}
+use Rattle.promises.proofs.Accepted.{frames-shown, ages-shown, plan-accepted}
+use Rattle.promises.proofs.Cells.{table-shown}
 use Rattle.promises.proofs.Lit.{slots-lit}
-use Rattle.promises.proofs.Found.{FoundPlan, found-accepted, words-found, book-found}
-use Rattle.promises.proofs.RowLaws.{sound-rows, rows-sound, book-number}
-use Rattle.promises.proofs.Demand1.{list-plans, reading-kept, c-reads, read-c-1, write-1, c-writes}
+use Rattle.promises.proofs.Found.{words-found, book-found}
+use Rattle.promises.proofs.Demand1.{list-plans, book-plans, c-reads, read-c-1, c-writes}
 
 -- ---- plans
-
-found-ages : (s : Settings) (list : List ℕ) (place : ℕ) (word : ℕ → ℕ) → FoundPlan s list place word → (i : ℕ)
-    → Between 1 (count list) i
-    → AgeShown s (signalAt list i) (frameOf word i) (ageOf word i)
-found-ages s list place word f = ages-shown s list (f .R) (f .fillable) word (f .shows)
 
 pub plan-2 : Demand2Planning Plans
 plan-2 =
     record {
-      ages = λ x l y p z. found-ages (x .settings) (x .list) (y .place) _ (words-found x l y p z .found);
-      table = λ x l y p z. words-found x l y p z .table;
-      cells-behind = λ x l y p z. words-found x l y p z .cells-behind;
-      results-behind = λ x l y p z. words-found x l y p z .results-behind;
+      ages = λ x l y p z. ages-shown (words-found x l y p z .found);
+      table = λ x l y p z.
+          let f = words-found x l y p z in
+          table-shown (x .settings) (x .list) (f .found .R) (l .cells) (y .lent .cells) (f .cells) (frameOf (overWords .word (y .lent)))
+          (frames-shown (f .found)) (λ q m. f .found .results q m .frame);
+      cells-behind = λ x l y p z. let f = words-found x l y p z in (f .cells .same-length, f .cells .later);
+      results-behind = λ x l y p z. words-found x l y p z .behind;
       slots = λ x l y p z.
           let f = words-found x l y p z in
-          slots-lit (x .settings) (count (x .list)) (frameOf (overWords .word (y .lent))) (y .lent .cells)
-          (λ i b. found-ages (x .settings) (x .list) (y .place) _ (f .found) i b .frame) (f .table)
-          ∙ found-accepted (x .settings) (x .list) (y .place) _ (f .found) .used;
+          slots-lit (x .settings) (count (x .list)) (frameOf (overWords .word (y .lent))) (y .lent .cells) (frames-shown (f .found))
+          (table-shown (x .settings) (x .list) (f .found .R) (l .cells) (y .lent .cells) (f .cells) (frameOf (overWords .word (y .lent)))
+          (frames-shown (f .found)) (λ q m. f .found .results q m .frame))
+          ∙ plan-accepted (f .found) .used;
     }
 
 pub plan-list-2 : Demand2Planning PlansList
@@ -64,119 +64,112 @@ plan-list-2 =
 pub plan-book-2 : Demand2Editor PlansBook
 plan-book-2 =
     record {
-      ages = λ book l y p z. found-ages (settingsIn book) (listIn book) (y .place) _ (book-found book l y p z .found);
-      behind = λ book l y p z. book-found book l y p z .behind;
-      bytes = λ book l y p. book-bytes book l (p .1 .given) (y .lent) (p .1 .plan);
+      ages = λ book l y p z. let q = book-plans book l y p in ages-shown (book-found book l y (q .0) (q .1) (q .2) z .found);
+      behind = λ book l y p z. let q = book-plans book l y p in book-found book l y (q .0) (q .1) (q .2) z .behind;
+      bytes = bytes;
     }
+  where
+    -- a refusal changes nothing; else the results are bytes, and what lies behind stays
+    bytes : (book l : List ℕ) (y : Return (List ℕ)) → PlansBook book l y → AllBelow 256 l → AllBelow 256 (y .lent)
+    bytes book l y p below j =
+        let q = book-plans book l y p in
+        dite (ℕ-discrete (numberOf (q .0)) 0)
+        (λ z.
+        let shown = q .1 .done z in
+        dite (decLt j (resultBytes (listIn book))) (λ h. shown .bytes j h)
+        (λ n. subst (λ (x : ℕ). x < 256) (sym (shown .later j (omega arith))) (below j)))
+        (λ n. subst (λ (e : List ℕ). getD e j 0 < 256) (sym (q .1 .refused n)) (below j))
 
 -- ---- books
-
--- number 0 is done, at its place
-done-at : (a : Answer) → numberOf a ≡ 0 → a ≡ Done (placeOf a)
-done-at (Done p) e = refl
-done-at Length e = absurd (omega (arith, e))
-done-at (Check p) e = absurd (omega (arith, e))
-done-at (Kind p) e = absurd (omega (arith, e))
-done-at Count e = absurd (omega (arith, e))
-done-at (Zero p) e = absurd (omega (arith, e))
-done-at (Setting p) e = absurd (omega (arith, e))
-done-at (Field p) e = absurd (omega (arith, e))
-done-at (Bound p) e = absurd (omega (arith, e))
-done-at (Slots p) e = absurd (omega (arith, e))
-done-at (Room p) e = absurd (omega (arith, e))
-done-at (Taken p) e = absurd (omega (arith, e))
-
--- where the number of a return is 0, its answer is done at its place
-told-done : {Room : Type 0} (a : Answer) (y : Return Room) → Tells a y → y .number ≡ 0 → a ≡ Done (y .place)
-told-done a y t z = done-at a (sym (t .0) ∙ z) ∙ ap Done (sym (t .1))
-
--- where writing is done, the list is right and the room is enough
-written-room : (x : Request) (l : List ℕ) (n p : ℕ)
-    → FirstRow (writingRows x l) (λ q. q ≡ blocksFor (count (x .list))) n p → n ≡ 0
-    → CountInRange (x .list) × (512 * blocksFor (count (x .list)) ≤ length l)
-written-room x l n p (inl (f, e, q)) z = absurd (omega (arith, e, z))
-written-room x l n p (inr (k, inl (f, e, q))) z = absurd (omega (arith, e, z))
-written-room x l n p (inr (k, inr (r, q))) z = (k, r)
-
--- what reading gives where it is done
-read-done : (s : Settings)
-    → WhereDone (Reads s) (λ book l y. (sound book ≡ true) × (s ≡ settingsIn book) × (y .lent ≡ listIn book ++ drop (5 * signalsOf book) l))
-read-done s book l y p z =
-    let a = read-facts book (length l) (y .place) (sym (p .1 .answer) ∙ told-done (p .0 .answer) y (p .3) z) in
-    let given = read-given book l (a .sound) (a .enough) in
-    (a .sound, p .2 ∙ p .1 .settings ∙ sym (given .0), p .1 .list ∙ sym (given .1))
 
 pub books-2 : Demand2Books (λ n. n ≡ 0) Reads Writes
 books-2 =
     record {
-      settings-read = λ s book l y p z. read-done s book l y p z .1;
-      zeros-read = λ s book l y p n. reading-kept book l s y p n .0;
-      list-read = λ s book l y p z. read-done s book l y p z .2;
-      written = λ x l y p z.
-          let w = written-room x l (y .number) (y .place) (write-1 .numbered x l y p) z in
-          p .1 .room ∙ sym (write-filled (x .settings) (x .list) l (w .0 .whole) (omega (arith, w .0 .few)) (w .1));
-      same-values = λ x room w p z settings words s book l y q same enough.
-          let written = subst (λ (a : Answer). WriteOutcome (x .settings) (x .list) room a (w .lent))
-          (told-done (p .0) w (p .2) z) (p .1) in
-          let read = subst (λ (b : List ℕ). ReadOutcome b l (q .0) (y .lent)) same (q .1) in
-          let given = write-then-read {n = w .place} settings words written enough read in
+      settings-read = λ s book l y (r, read, e, t) z. e ∙ read .done (sym (t .0) ∙ z) .0;
+      zeros-read = λ s book l y (r, read, e, t) n. e ∙ read .refused (λ z. n (t .0 ∙ z)) .0;
+      list-read = λ s book l y (r, read, e, t) z. read .done (sym (t .0) ∙ z) .1;
+      written = λ x l y (a, w, t) z. w .done (sym (t .0) ∙ z);
+      same-values = λ x room w (a, out, t) z settings words s book l y (r, read, e, u) same enough.
+          let blocks : book ≡ take (512 * placeOf a) (w .lent) = same ∙ ap (λ (n : ℕ). take (512 * n) (w .lent)) (t .1) in
+          let given =
+          write-then-read settings words out (sym (t .0) ∙ z) enough (subst (λ (b : List ℕ). ReadOutcome b l r (y .lent)) blocks read) in
           record {
-            accepted = q .3 .0 ∙ ap numberOf (given .0);
-            signals = q .3 .1 ∙ ap placeOf (given .0);
-            settings = q .2 ∙ given .1;
-            words = given .2;
+            accepted = u .0 ∙ given .0;
+            signals = u .1 ∙ given .1;
+            settings = e ∙ given .2;
+            words = given .3;
           };
-      same-bytes = λ s book l y p z bytes x room w q same enough.
-          let accepted = told-done (p .0 .answer) y (p .3) z in
-          let values : x ≡ record { settings = p .0 .settings; list = take (5 * y .place) (y .lent) } =
-          same ∙ ap (λ (t : Settings). record { settings = t; list = take (5 * y .place) (y .lent) }) (p .2) in
-          let written = subst (λ (v : Request). WriteOutcome (v .settings) (v .list) room (q .0) (w .lent)) values
-          (q .1) in
-          let given = read-then-write {m = y .place} bytes (p .1) accepted enough written in
-          let whole = sound-facts book (read-done s book l y p z .0) .whole in
+      same-bytes = λ s book l y (r, read, e, t) z bytes x room w (a, out, u) same enough.
+          let values : x ≡ record { settings = r .settings; list = take (signalSize * placeOf (r .answer)) (y .lent) } =
+          same ∙ λ i. record { settings = e i; list = take (signalSize * t .1 i) (y .lent) } in
+          let given =
+          read-then-write bytes read (sym (t .0) ∙ z) enough
+          (subst (λ (v : Request). WriteOutcome (v .settings) (v .list) room a (w .lent)) values out) in
           record {
-            accepted = q .2 .0 ∙ ap numberOf (given .0);
-            blocks = omega (arith, q .2 .1, ap placeOf (given .0), whole);
-            bytes = given .1;
+            accepted = u .0 ∙ given .0;
+            blocks = omega (arith, u .1, given .1, sound-length book (read-gives read (sym (t .0) ∙ z) .sound) .whole);
+            bytes = given .2;
           };
     }
 
--- from C the settings come word by word, and are those of a sound book; where the reading is done they are those that it gives
-c-reads-done : (s : Settings) → WhereDone (ReadsFromC s) (Reads s)
-c-reads-done s book l y p z =
-    let q = c-reads book l s y p in
-    let given = read-done (q .0) book l y (q .1) z in
-    subst (λ (t : Settings). Reads t book l y) (given .1 ∙ sym (settings-some book (given .0)) ∙ sym (p .2)) (q .1)
+-- from C the settings come word by word
+word-by-word : (s t : Settings) (word : ℕ → ℕ) → s ≡ settingsFrom word → ((w : ℕ) → word w ≡ settingWord t w) → s ≡ t
+word-by-word s t word e h =
+    e ∙ λ i. record { cycle = h 2 i; slot = h 3 i; slots = h 4 i; packing = h 5 i; payload = h 6 i }
 
--- a book is sound where the number is 0 or 10, and else its settings are five zeros
+-- those of a sound book, else five zeros
 module _ (s : Settings) (book l : List ℕ) (y : Return (List ℕ)) (p : ReadsFromC s book l y) where
-  abbrev last : List Row
-  last = roomRow (5 * signalsOf book) (length l) ∷ []
+  c-sound : Hold (bookRows book) → s ≡ settingsIn book
+  c-sound h =
+      let (word, told, e) = p .2 in
+      word-by-word s (settingsIn book) word e
+      (λ w. told w .answer ∙ ap (λ (t : Settings). settingWord t w) (told w .outcome .sound h))
 
-  so-far : (Between 1 5 (y .number) × (Hold (bookRows book) → ⊥)) ⊎ (Hold (bookRows book) × FirstRow last (λ q. q ≡ signalsOf book) (y .number) (y .place))
-  so-far = book-number book last (λ q. q ≡ signalsOf book) (y .number) (y .place) (read-c-1 .numbered book l y (s, p))
+  c-unsound : (Hold (bookRows book) → ⊥) → s ≡ fiveZeros
+  c-unsound n =
+      let (word, told, e) = p .2 in
+      word-by-word s fiveZeros word e
+      (λ w. told w .answer ∙ ap (λ (t : Settings). settingWord t w) (told w .outcome .unsound n))
 
+  -- a book is sound where the number is 0 or 10
   c-settings : (y .number ≡ 0) ⊎ (y .number ≡ 10) → s ≡ settingsIn book
-  c-settings g =
-      ⊎-elim (λ f. absurd (⊎-elim (λ z. omega (arith, f .0, z)) (λ t. omega (arith, f .0, t)) g))
-      (λ h. p .2 ∙ settings-some book (rows-sound book (h .0))) so-far
+  c-settings g = ⊎-elim c-sound (λ n. absurd (outside (unsound-number n) g)) (sound-or-not book)
+    where
+      unsound-number : (Hold (bookRows book) → ⊥) → Between 1 5 (y .number)
+      unsound-number n =
+          front-number (Between 1 5) (bookRows book) (roomRow (signalSize * signalsOf book) (length l) ∷ []) (λ q. q ≡ signalsOf book)
+          (y .number) (y .place) (omega arith, (omega arith, (omega arith, (omega arith, (omega arith, tt))))) n
+          (read-c-1 .numbered book l y (s, p))
+
+      outside : Between 1 5 (y .number) → (y .number ≡ 0) ⊎ (y .number ≡ 10) → ⊥
+      outside b (inl z) = omega (arith, b, z)
+      outside b (inr t) = omega (arith, b, t)
 
   c-zeros : ((y .number ≡ 0) ⊎ (y .number ≡ 10) → ⊥) → s ≡ fiveZeros
-  c-zeros n = ⊎-elim (λ f. unsound (sound book) refl (f .1)) (λ h. absurd (room (h .1))) so-far
+  c-zeros n = ⊎-elim (λ h. absurd (room (read-last h))) c-unsound (sound-or-not book)
     where
-      unsound : (t : Bool) → sound book ≡ t → (Hold (bookRows book) → ⊥) → s ≡ fiveZeros
-      unsound true e f = absurd (f (sound-rows book e))
-      unsound false e f = p .2 ∙ settings-none book e
+      last : List Row
+      last = roomRow (signalSize * signalsOf book) (length l) ∷ []
+
+      read-last : Hold (bookRows book) → FirstRow last (λ q. q ≡ signalsOf book) (y .number) (y .place)
+      read-last h =
+          past last (λ q. q ≡ signalsOf book) (y .number) (y .place) (bookRows book) h (read-c-1 .numbered book l y (s, p))
 
       room : FirstRow last (λ q. q ≡ signalsOf book) (y .number) (y .place) → ⊥
       room (inl (f, e, q)) = n (inr e)
       room (inr (r, (e, q))) = n (inl e)
 
+-- where the reading is done, the settings are those that it gives
+c-reads-done : (s : Settings) → WhereDone (ReadsFromC s) (Reads s)
+c-reads-done s book l y p z =
+    let (q, (r, read, e, t)) = c-reads book l s y p in
+    (r, read, c-settings s book l y p (inl z) ∙ sym (read .done (sym (t .0) ∙ z) .0), t)
+
 pub books-c-2 : Demand2Books (λ n. (n ≡ 0) ⊎ (n ≡ 10)) ReadsFromC WritesFromC
 books-c-2 =
     record {
-      settings-read = λ s book l y p. c-settings s book l y p;
-      zeros-read = λ s book l y p. c-zeros s book l y p;
+      settings-read = c-settings;
+      zeros-read = c-zeros;
       list-read = λ s book l y p z. books-2 .list-read s book l y (c-reads-done s book l y p z) z;
       written = λ x l y p. books-2 .written x l y (c-writes x l y p);
       same-values = λ x room w p z settings words s book l y q same enough.

@@ -1,177 +1,142 @@
--- For every input some outcome meets the planner's contract, so no statement about outcomes holds for want of one: what
--- the questions let pass is filled in, frame by frame, by the laws that the proofs of the planner's loops cite.
+-- For every input some outcome meets each contract of planning, so no statement about outcomes holds for want of one.
 -- Assumes nothing.
-use mathlib.Core.Path.{_≡_, refl}
-use mathlib.Core.Bool.{Bool, true, false}
-use mathlib.Core.List.{List, [], _∷_, _++_, map, List·Memᴰ}
-use mathlib.Core.List.List·Memᴰ.{List·Memᴰ·head, List·Memᴰ·tail}
-use mathlib.Core.Logic.{inl, inr, dite}
-use Prim.Native.Nat.{ℕ, _+_, _*_, _-_, _≤_}
-use native.Mathlib.Decide.{ℕ-discrete, decLe}
-use native.Mathlib.Nat.{lt-of-not-le}
+use mathlib.Core.Path.{refl, sym}
+use mathlib.Core.List.{List, _∷_}
+use mathlib.Core.Logic.{dite}
+use Prim.Native.Nat.{ℕ, _*_, _≤_, _<_}
+use native.Mathlib.Decide.{ℕ-discrete}
 use native.Mathlib.Omega.{arith}
-use lib.ListN.{length, drop, set, replicate, length-replicate}
+use lib.ListN.{length, replicate, length-replicate}
+use Rattle.laws.specs.Lowest.{EachTo}
+use Rattle.laws.specs.Rows.{Row, Hold}
+use Rattle.laws.proofs.RowLaws.{zero-holds, hold-rest}
+use Rattle.laws.proofs.DecidedLaws.{Decided, first-row, decided-join}
 use Rattle.terms.specs.declared.Settings.{Settings}
-use Rattle.terms.specs.declared.Frame.{Frame}
 use Rattle.terms.specs.declared.Answer.{Answer}
-use Rattle.terms.specs.declared.Answer.the-variants.{Done, Setting, Room}
-use Rattle.terms.specs.Answers.{numberOf}
-use Rattle.terms.specs.Ranges.{SettingsInRange, SignalInRange, Valid}
-use Rattle.terms.specs.RangesLaws.{settings-granted}
-use Rattle.terms.specs.RepetitionLaws.{repetition-positive}
-use Rattle.age.specs.AgeTests.{ageOf, age-of}
-use Rattle.planner.specs.Lists.{CountInRange, count, signalAt, EachSignal}
-use Rattle.planner.specs.Asked.{questions}
-use Rattle.planner.specs.Judged.{repetitionIn, Judged}
-use Rattle.planner.specs.JudgedLaws.{kept-seven}
-use Rattle.planner.specs.Filled.{Place, needed, filled}
-use Rattle.planner.specs.FilledLaws.{cleared-length, cells-show, results-show}
-use Rattle.planner.specs.CoverLaws.{filled-own}
-use Rattle.planner.specs.PaintLaws.{Painting, painting-none, painting-next, painting-all, fourSet, resulted}
-use Rattle.planner.specs.Planned.{Planned}
-use Rattle.planner.specs.Planned.Planned.{refused, done}
-use Rattle.planner.specs.Shown.{Sent, sentOf, Sendable, Painted, Paintable, Resulted, Shown}
-use Rattle.planner.specs.Shown.Shown.{none, more}
-use Rattle.book.specs.Reading.{sound, judged, settingsIn, listIn}
-use Rattle.book.proofs.SoundLaws.{sound-facts, sound-count}
-use Rattle.book.proofs.AcceptedLaws.{list-length}
-use Rattle.editor.specs.BookPlan.{BytesPlanned, BookPlanned}
-use Rattle.editor.specs.BookPlan.BookPlanned.{unread, planned}
-use Rattle.editor.specs.BookPlanLaws.{bytes-refused-6, bytes-refused-10, bytes-refused, bytes-done}
-use Rattle.promises.proofs.Placing.{place-framed}
-use Rattle.promises.proofs.Deciding.{ends, lowest-setting, judged-exists}
+use Rattle.terms.specs.declared.Answer.the-variants.{Count, Setting, Field, Bound, Slots, Room}
+use Rattle.terms.specs.Answers.{numberOf, placeOf, Answers, roomRow}
+use Rattle.terms.specs.Requests.{Request, PlanRoom, request, planRoom}
+use Rattle.terms.specs.Ranges.{SettingsInRange, SignalInRange}
+use Rattle.terms.specs.Lists.{count, groupOf, groups, EachSignal}
+use Rattle.terms.specs.Results.{resultSize}
+use Rattle.terms.proofs.AnswersLaws.{Answerable, answerable-join, answer-exists}
+use Rattle.filling.proofs.Exists.{show-exists}
+use Rattle.book.specs.Reading.{settingsIn, listIn, bookRows}
+use Rattle.book.proofs.SoundLaws.{book-decided, book-answerable}
+use Rattle.planner.specs.Rows.{Needed, signalRows, planningRows}
+use Rattle.planner.specs.Planned.{PlanShown, Planned}
+use Rattle.planner.proofs.PlannedLaws.{kept-seven}
+use Rattle.planner.proofs.Unique.{planning-numbered}
+use Rattle.editor.specs.Rows.{resultBytes, bytesRows, editorRows}
+use Rattle.editor.specs.Answered.{BytesShown, BookPlanned}
+use Rattle.editor.proofs.BookLaws.{shown-bytes}
+use Rattle.editor.proofs.Unique.{editor-numbered}
+use Rattle.promises.proofs.Deciding.{repetitions-exist, signals-decided, after-settings, after-room, planning-decided}
 
--- ---- frames shown
+-- ---- answers for the rows
 
--- a frame's cells are painted one repetition after the other
-painted : (x : Sent) (cells : List ℕ) → Paintable cells (x .frame) → (c : List ℕ) × Painted x cells c
-painted x cells p =
-    ends {On = λ c. (now : List ℕ) × Painting first (f .repetition) (f .base) (x .signal) cells now c} 63
-    (λ c l o.
-    inl (
-      c + f .repetition,
-      omega (arith, repetition-positive (f .repetition) (p .repetition)),
-      (
-        set (o .0) (first + c) (x .signal),
-        painting-next first (f .repetition) (f .base) (x .signal) (p .repetition) (p .base) cells (o .0) c (omega arith) (o .1)
-            (omega arith),
-      ),
-    ))
-    (λ c l o. (o .0, painting-all f (x .signal) cells (o .0) c (o .1) l)) (f .base)
-    (cells, painting-none first (f .repetition) (f .base) (x .signal) cells)
+signals-answerable : (s : Settings) (list : List ℕ) → Answerable (signalRows s list)
+signals-answerable s list =
+    ((λ p l. (Field p, refl, refl)), ((λ p l. (Bound p, refl, refl)), ((λ p l. (Slots p, refl, refl)), tt)))
+
+planning-answerable : (x : Request) (l : PlanRoom) → Answerable (planningRows x l)
+planning-answerable x l = (
+  (λ p w. (Setting p, refl, refl)),
+  (
+    (λ p e. (Count, refl, sym e)),
+    ((λ p e. (Room p, refl, refl)), ((λ p e. (Room p, refl, refl)), signals-answerable (x .settings) (x .list))),
+  ),
+)
+
+bytes-answerable : (s : Settings) (list : List ℕ) (lent : ℕ) → Answerable (bytesRows s list lent)
+bytes-answerable s list lent = ((λ p w. (Setting p, refl, refl)), ((λ p e. (Room p, refl, refl)), signals-answerable s list))
+
+-- ---- what is found where all rows hold
+
+-- the slots needed
+needed-exists : (s : Settings) (list : List ℕ) → SettingsInRange s → EachSignal list (SignalInRange s) → (p : ℕ) × Needed s list p
+needed-exists s list settings signals = let r = repetitions-exist s list settings signals in (_, (r .0, r .1, refl))
+
+-- the plan shown, in room that is long enough
+plan-exists : (s : Settings) (list : List ℕ) (lent : PlanRoom) → SettingsInRange s → Hold (signalRows s list)
+    → 64 * s .slots ≤ length (lent .cells) → resultSize * count list ≤ length (lent .results)
+    → (exit : PlanRoom) × PlanShown (request s list) lent exit
+plan-exists s list lent settings (signals, (kept, (fits, u))) cells results =
+    let (R, r) = repetitions-exist s list settings signals in
+    let grouped : EachTo (count list) (λ i. groupOf list i < groups) = λ i b. omega (arith, signals i b .unit) in
+    let e = show-exists s list R (kept-seven s list R r kept) grouped (fits R r) lent cells results in
+    (e .0, record { R = R; repetitions = r; cells = e .1; results = e .2 })
+
+-- ---- planning
+
+pub planned-exists : (x : Request) (l : PlanRoom) → (a : Answer) × (exit : PlanRoom) × Planned x l a exit
+planned-exists x l =
+    let r = first-row rows done (planning-decided x l) (λ h. needed-exists (x .settings) (x .list) (h .0) (h .1 .1 .1 .1 .0)) in
+    let b = answer-exists rows done (r .0) (r .1) (planning-answerable x l) (r .2) in
+    outcome (b .0) (b .1)
   where
-    f : Frame
-    f = x .frame
+    rows : List Row
+    rows = planningRows x l
 
-    first : ℕ
-    first = 64 * (f .slot - 1)
+    done : ℕ → Type 0
+    done = Needed (x .settings) (x .list)
 
-module _ (s : Settings) (list : List ℕ) (h : SettingsInRange s) (signals : EachSignal list (SignalInRange s)) where
-  -- a frame is painted, and its signal's four words are written
-  one-shown : (x : Sent) → Sendable s list x → (cells results : List ℕ) → 64 * s .slots ≤ length cells
-      → 4 * count list ≤ length results → (c : List ℕ) × (r : List ℕ) × Painted x cells c × Resulted s list x results r
-  one-shown x o cells results l m =
-      let f = x .frame in
-      let y = signalAt list (x .signal) in
-      let v : Valid s y = record { settings = h; signal = signals (x .signal) (o .signal) } in
-      let w = o .frame in
-      let fits : Paintable cells f =
-      record { slot = w .slot .0; room = omega arith; repetition = w .repetition; base = w .base } in
-      let age = age-of s y f (record { valid = v; frame = w }) in
-      let c = painted x cells fits in (
-        c .0,
-        fourSet results (4 * (x .signal - 1)) (f .slot) (f .base) (f .repetition) (ageOf s y f),
-        c .1,
-        resulted s list f (x .signal) (ageOf s y f) results (omega (arith, o .signal)) age,
-      )
+    outcome : (a : Answer) → Answers rows done a → (a : Answer) × (exit : PlanRoom) × Planned x l a exit
+    outcome a f =
+        dite (ℕ-discrete (numberOf a) 0)
+        (λ z.
+        let h = zero-holds done (numberOf a) (placeOf a) rows (planning-numbered x l) f z .0 in
+        let e = plan-exists (x .settings) (x .list) l (h .0) (h .1 .1 .1 .1) (h .1 .1 .0) (h .1 .1 .1 .0) in
+        (a, e .0, record { answer = f; refused = λ n. absurd (n z); done = λ y. e .1 }))
+        (λ n. (a, l, record { answer = f; refused = λ m. refl; done = λ z. absurd (n z) }))
 
-  all-shown : (R : ℕ → ℕ) (ps : List Place) → ((p : Place) → List·Memᴰ p ps → Sendable s list (sentOf R p))
-      → (cells results : List ℕ) → 64 * s .slots ≤ length cells → 4 * count list ≤ length results
-      → (c : List ℕ) × (r : List ℕ) × Shown s list (map (sentOf R) ps) cells results c r
-  all-shown R [] fit cells results l m = (cells, results, none)
-  all-shown R (p ∷ ps) fit cells results l m =
-      let o = fit p (List·Memᴰ·head refl) in
-      let one = one-shown (sentOf R p) o cells results l m in
-      let rest =
-      all-shown R ps (λ q k. fit q (List·Memᴰ·tail k)) (one .0) (one .1)
-      (omega (arith, one .2 .same-length)) (omega (arith, one .3 .same-length)) in
-      (rest .0, rest .1, more o (one .2) (one .3) (rest .2))
+-- ---- a book from the editor
 
--- ---- the plan of a list
+editor-decided : (book : List ℕ) (lent : ℕ) → Decided (editorRows book lent)
+editor-decided book lent =
+    let s = settingsIn book in
+    let list = listIn book in
+    decided-join (bookRows book) (bytesRows s list lent) (book-decided book) (λ sound.
+    after-settings s (roomRow (resultBytes list) lent ∷ signalRows s list) (λ settings.
+    after-room (resultBytes list) lent (signalRows s list) (signals-decided s list settings)))
 
--- for all settings, all lists and all that is lent, planning has an outcome
-pub planned-exists : (s : Settings) (list cells results : List ℕ)
-    → (a : Answer) × (c : List ℕ) × (r : List ℕ) × Planned s list cells results a c r
-planned-exists s list cells results =
-    let j = judged-exists s list (length cells) (length results) in
-    outcome (j .0) (j .1) (j .2)
-  where
-    outcome : (a : Answer) (words : List ℕ)
-        → Judged s list (questions s list (length cells) (length results) (needed list)) a words
-        → (a : Answer) × (c : List ℕ) × (r : List ℕ) × Planned s list cells results a c r
-    outcome a words (inl r) = (a, cells, results, refused r)
-    outcome a words (inr (p, found, e)) =
-        let R = repetitionIn words in
-        let n = 64 * s .slots in
-        let room = p .1 .1 .0 in
-        let signals = p .1 .1 .1 .1 in
-        let seven = kept-seven s list R (signals .1 .0) found in
-        let fit : (p : Place) → List·Memᴰ p (filled list R) → Sendable s list (sentOf R p) =
-        λ p m. record { signal = filled-own list R seven p m; frame = place-framed list R seven s (signals .1 .1 .0 R found) p m } in
-        let all =
-        all-shown s list (p .0) (signals .0) R (filled list R) fit (replicate n 0 ++ drop n cells) results
-        (omega (arith, cleared-length n cells room)) (p .1 .1 .1 .0) in (
-          Done (needed list R),
-          all .0,
-          all .1,
-          done R p
-              (record {
-                repetitions = found;
-                table = cells-show s list R seven cells results (all .0) (all .1) room (all .2);
-                shown = results-show s list R seven cells results (all .0) (all .1) room (all .2);
-              }),
-        )
+module _ (book l : List ℕ) where
+  abbrev s : Settings
+  s = settingsIn book
 
--- ---- the plan of a book
+  abbrev list : List ℕ
+  list = listIn book
 
-module _ (s : Settings) (list results : List ℕ) (c : CountInRange list) where
-  bytes-planned-exists : (a : Answer) × (r : List ℕ) × BytesPlanned s list results a r
-  bytes-planned-exists =
-      let low = lowest-setting s in
-      dite (ℕ-discrete (low .0) 0)
-      (λ z.
-      let h = settings-granted s (low .0) (low .1) z in
-      dite (decLe (16 * count list) (length results)) (within h)
-      (λ n.
-      (Room (16 * count list), results, bytes-refused-10 s list results h (16 * count list) refl (lt-of-not-le n))))
-      (λ n. (Setting (low .0), results, bytes-refused-6 s list results (low .0) (low .1) n))
+  -- the bytes of a plan in words of its own
+  bytes-exist : Hold (bytesRows s list (length l)) → (exit : List ℕ) × BytesShown book l exit
+  bytes-exist h =
+      let blank = planRoom (replicate (64 * s .slots) 0) (replicate (resultSize * count list) 0) in
+      let cells : 64 * s .slots ≤ length (blank .cells) = omega (arith, length-replicate {A = ℕ} (64 * s .slots) 0) in
+      let results : resultSize * count list ≤ length (blank .results) = omega (arith, length-replicate {A = ℕ} (resultSize * count list) 0) in
+      let e = plan-exists s list blank (h .0) (h .1 .1) cells results in
+      (_, shown-bytes book l h blank (e .0) (e .1) (omega (arith, results, e .1 .results .same-length)))
+
+  pub book-planned-exists : (a : Answer) × (exit : List ℕ) × BookPlanned book l a exit
+  book-planned-exists =
+      let r = first-row rows done (editor-decided book (length l)) (λ h. needed-exists s list (rest h .0) (rest h .1 .1 .0)) in
+      let b =
+      answer-exists rows done (r .0) (r .1)
+      (answerable-join (bookRows book) (bytesRows s list (length l)) (book-answerable book) (bytes-answerable s list (length l))) (r .2) in
+      outcome (b .0) (b .1)
     where
-      -- the editor lends only the results: cells and words are the planner's own
-      cells : List ℕ
-      cells = replicate (64 * s .slots) 0
+      rows : List Row
+      rows = editorRows book (length l)
 
-      words : List ℕ
-      words = replicate (4 * count list) 0
+      done : ℕ → Type 0
+      done = Needed s list
 
-      within : SettingsInRange s → 16 * count list ≤ length results
-          → (a : Answer) × (r : List ℕ) × BytesPlanned s list results a r
-      within h room =
-          let p = planned-exists s list cells words in
-          let l : 64 * s .slots ≤ length cells = omega (arith, length-replicate {A = ℕ} (64 * s .slots) 0) in
-          let m : 4 * count list ≤ length words = omega (arith, length-replicate {A = ℕ} (4 * count list) 0) in
-          dite (ℕ-discrete (numberOf (p .0)) 0)
-          (λ z. (p .0, _, bytes-done s list results h c room cells words l m (p .0) (p .1) (p .2) (p .3) z))
-          (λ n. (p .0, results, bytes-refused s list results h c room cells words l m (p .0) (p .1) (p .2) (p .3) n))
+      rest : Hold rows → Hold (bytesRows s list (length l))
+      rest = hold-rest (bookRows book) (bytesRows s list (length l))
 
--- for all bytes and all that is lent, planning a book has an outcome
-pub book-planned-exists : (book results : List ℕ) → (a : Answer) × (r : List ℕ) × BookPlanned book results a r
-book-planned-exists book results = go (sound book) refl
-  where
-    go : (b : Bool) → sound book ≡ b → (a : Answer) × (r : List ℕ) × BookPlanned book results a r
-    go true e =
-        let few = sound-count book (sound-facts book e) .0 in
-        let size = list-length book in
-        let right : CountInRange (listIn book) = record { whole = omega arith; few = omega arith } in
-        let p = bytes-planned-exists (settingsIn book) (listIn book) results right in
-        (p .0, p .1, planned e (p .2))
-    go false e = (judged book, results, unread e)
+      outcome : (a : Answer) → Answers rows done a → (a : Answer) × (exit : List ℕ) × BookPlanned book l a exit
+      outcome a f =
+          dite (ℕ-discrete (numberOf a) 0)
+          (λ z.
+          let e = bytes-exist (rest (zero-holds done (numberOf a) (placeOf a) rows (editor-numbered book (length l)) f z .0)) in
+          (a, e .0, record { answer = f; refused = λ n. absurd (n z); done = λ y. e .1 }))
+          (λ n. (a, l, record { answer = f; refused = λ m. refl; done = λ z. absurd (n z) }))

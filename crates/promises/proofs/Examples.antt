@@ -1,30 +1,33 @@
 -- The smaller definitions that the demands rest on, each with one thing that satisfies it and one that does not, most of them from
--- "Examples with numbers". `NotVacuous` has what speaks of plans and books.
+-- "Examples with numbers". `NotVacuous` has what speaks of plans, and `BookExamples` what speaks of rows and books.
 -- Assumes nothing.
 use mathlib.Core.Path.{_≡_, refl, ap}
 use mathlib.Core.List.{List, [], _∷_}
 use mathlib.Core.Logic.{inl, inr}
-use Prim.Native.Nat.{ℕ, zero, suc, _^_, _≤_}
+use Prim.Native.Nat.{ℕ, zero, suc, _^_, _≤_, _<_}
 use native.Mathlib.Omega.{arith}
 use lib.Dec.{lit≤}
 use lib.ListN.{getD}
-use Rattle.laws.specs.DivisorLaws.{euclid}
+use Rattle.laws.specs.Lowest.{EachTo, LowestWithout}
+use Rattle.laws.proofs.RowLaws.{holds-zero}
+use Rattle.laws.proofs.DivisorLaws.{euclid}
+use Rattle.terms.specs.declared.Settings.{Settings}
 use Rattle.terms.specs.declared.Frame.{Frame}
-use Rattle.terms.specs.Ranges.{SettingsInRange, LowestOutOfRange, SignalInRange, Repetition, FrameInRange}
-use Rattle.terms.specs.RepetitionLaws.{repetition-positive, repetition-multiple}
+use Rattle.terms.specs.Ranges.{settingRows, SettingsInRange, LowestOutOfRange, SignalInRange, Repetition, FrameInRange}
+use Rattle.terms.specs.Lists.{CountInRange, count, signalAt, EachSignal}
+use Rattle.terms.proofs.RepetitionLaws.{repetition-positive, repetition-multiple}
 use Rattle.age.specs.Age.{Age, Start, Release, Carries, ValueAge, firstStart, spanOf}
-use Rattle.age.specs.AgeLaws.{age-unique}
-use Rattle.age.specs.AgeTests.{age-test}
-use Rattle.cycles.specs.Frames.{Names}
-use Rattle.cycles.specs.FrameLaws.{named-remainder}
-use Rattle.planner.specs.Lists.{CountInRange, signalAt, EachSignal, Kept, LowestWithout}
+use Rattle.age.proofs.AgeLaws.{age-unique}
+use Rattle.age.proofs.AgeTests.{age-test}
+use Rattle.rule.specs.Rule.{Kept}
+use Rattle.cycles.specs.Frames.{Names, Sends}
+use Rattle.cycles.proofs.FrameLaws.{named-remainder}
 use Rattle.book.specs.Words.{AllBelow}
 use Rattle.book.specs.Blocks.{AreWords}
-use Rattle.promises.specs.Shows.{Sends}
 use Rattle.promises.specs.Demand2.{Releases, StartsAt, Behind}
 use Rattle.promises.specs.Changes.{RaisedSignal, Eased}
-use Rattle.promises.specs.Inputs.{settings, fresh, stale, case1, case3, twice}
-use Rattle.promises.proofs.Named.{fresh-valid, fresh-gets, stale-gets, at-one, settings-words}
+use Rattle.promises.proofs.Inputs.{settings, fresh, stale, case1, case3, twice}
+use Rattle.promises.proofs.Named.{fresh-valid, fresh-keeps, stale-gets, one, at-one, slot1, case1-count, settings-words}
 use Rattle.promises.proofs.Releasing.{releases}
 use Rattle.promises.proofs.Clock.{starts-named}
 
@@ -34,7 +37,10 @@ pub settings-yes : SettingsInRange settings
 settings-yes = fresh-valid .settings
 
 -- one slot is too few
-pub settings-no : SettingsInRange (record { cycle = 2500; slot = 16; slots = 1; packing = 0; payload = 8 }) → ⊥
+abbrev one-slot : Settings
+one-slot = record { cycle = 2500; slot = 16; slots = 1; packing = 0; payload = 8 }
+
+pub settings-no : SettingsInRange one-slot → ⊥
 settings-no h = omega (arith, h .1 .1 .0 .0)
 
 pub signal-yes : SignalInRange settings fresh
@@ -45,32 +51,33 @@ pub signal-no : SignalInRange settings (record { unit = 1; period = 2500; offset
 signal-no h = omega (arith, h .offset)
 
 pub count-yes : CountInRange case1
-count-yes = record { whole = refl; few = lit≤ tt }
+count-yes = case1-count
 
 pub count-no : CountInRange (1 ∷ 2500 ∷ 0 ∷ 16 ∷ []) → ⊥
 count-no h = omega (arith, h .whole)
 
 -- the number of slots is word 4
-pub lowest-yes : LowestOutOfRange (record { cycle = 2500; slot = 16; slots = 1; packing = 0; payload = 8 }) 4
-lowest-yes = inr ((lit≤ tt, lit≤ tt), inr ((lit≤ tt, lit≤ tt), inl ((λ h. omega (arith, h .0 .0)), refl)))
+pub lowest-yes : LowestOutOfRange one-slot 4
+lowest-yes = (6, inr ((lit≤ tt, lit≤ tt), inr ((lit≤ tt, lit≤ tt), inl ((λ h. omega (arith, h .0 .0)), refl, refl))))
 
 pub lowest-no : LowestOutOfRange settings 4 → ⊥
-lowest-no (inl (f, e)) = omega (arith, e)
-lowest-no (inr (a, inl (f, e))) = omega (arith, e)
-lowest-no (inr (a, inr (b, inl (f, e)))) = f (settings-yes .1 .1 .0)
-lowest-no (inr (a, inr (b, inr (c, inl (f, e))))) = omega (arith, e)
-lowest-no (inr (a, inr (b, inr (c, inr (d, inl (f, e)))))) = omega (arith, e)
-lowest-no (inr (a, inr (b, inr (c, inr (d, inr (f, e)))))) = omega (arith, e)
+lowest-no (n, f) = omega (arith, holds-zero (λ p. p ≡ 0) n 4 (settingRows settings) settings-yes f .1)
 
-abbrev pub frame : (slot base : ℕ) → Frame
+abbrev frame : (slot base : ℕ) → Frame
 frame slot base = record { slot = slot; repetition = 4; base = base }
 
-pub frame-yes : FrameInRange settings (frame 93 3)
+pub frame-yes : FrameInRange 93 (frame 93 3)
 frame-yes = record { slot = (lit≤ tt, lit≤ tt); repetition = (2, lit≤ tt, refl); base = lit≤ tt }
 
 -- the base is below the repetition
-pub frame-no : FrameInRange settings (frame 93 4) → ⊥
+pub frame-no : FrameInRange 93 (frame 93 4) → ⊥
 frame-no h = omega (arith, h .base)
+
+pub each-to-yes : EachTo 3 (λ i. i < 4)
+each-to-yes i b = omega (arith, b)
+
+pub each-to-no : EachTo 3 (λ i. i < 3) → ⊥
+each-to-no h = omega (arith, h 3 (lit≤ tt, lit≤ tt))
 
 pub each-yes : EachSignal case1 (SignalInRange settings)
 each-yes = at-one (λ i. SignalInRange settings (signalAt case1 i)) (fresh-valid .signal)
@@ -115,9 +122,6 @@ pub value-age-no : ValueAge 0 2500 100 16 2400 100 → ⊥
 value-age-no h = omega (arith, h .age, h .carries .earliest 2500 (1, refl) (lit≤ tt), h .carries .packed)
 
 -- case 3: the age in slot 1 is 2,501, and no other number is
-abbrev slot1 : Frame
-slot1 = record { slot = 1; repetition = 1; base = 0 }
-
 pub age-yes : Age settings stale slot1 2501
 unfolding euclid
 age-yes = age-test settings stale slot1 2501 .1 tt .1
@@ -141,24 +145,27 @@ pub names-no : Names 4 1 62 → ⊥
 names-no n = omega (arith, named-remainder n)
 
 pub kept-yes : Kept settings fresh
-kept-yes = let keeps = fresh-gets .has (λ e. omega (arith, e)) in (1, keeps .0, keeps .1)
+kept-yes = (1, one, fresh-keeps)
 
 pub kept-no : Kept settings stale → ⊥
 kept-no k = omega (arith, stale-gets .largest (k .0) (k .1) (k .2), repetition-positive (k .0) (k .1))
 
 -- signal 1 of case 3 is the lowest whose bound no repetition keeps; case 1 has none
-pub lowest-signal-yes : LowestWithout case3 (Kept settings) 1
+pub lowest-signal-yes : LowestWithout (count case3) (λ j. Kept settings (signalAt case3 j)) 1
 lowest-signal-yes = record { within = (lit≤ tt, lit≤ tt); fails = kept-no; before = λ j l h. absurd (omega (arith, l, h)) }
 
-pub lowest-signal-no : (i : ℕ) → LowestWithout case1 (Kept settings) i → ⊥
+pub lowest-signal-no : (i : ℕ) → LowestWithout (count case1) (λ j. Kept settings (signalAt case1 j)) i → ⊥
 lowest-signal-no i h = h .fails (at-one (λ j. Kept settings (signalAt case1 j)) kept-yes i (h .within))
 
 -- ---- what plans and books are said by
 
-pub sends-yes : Sends (record { slot = 7; repetition = 4; base = 1 }) 7 61
+abbrev slot7 : Frame
+slot7 = record { slot = 7; repetition = 4; base = 1 }
+
+pub sends-yes : Sends slot7 7 61
 sends-yes = (refl, names-yes)
 
-pub sends-no : Sends (record { slot = 7; repetition = 4; base = 1 }) 8 61 → ⊥
+pub sends-no : Sends slot7 8 61 → ⊥
 sends-no s = omega (arith, s .0)
 
 pub below-yes : AllBelow 256 (255 ∷ [])
@@ -175,14 +182,13 @@ pub words-no : AreWords (record { cycle = 2 ^ 32; slot = 16; slots = 93; packing
 words-no h = omega (arith, h .cycle)
 
 -- a frame of repetition 4 and base 1 in slot 7 starts in cycle 61 and, the 64 cycles coming again, in cycle 65
-pub starts-yes : StartsAt settings (Sends (record { slot = 7; repetition = 4; base = 1 })) 162596
+pub starts-yes : StartsAt settings (Sends slot7) 162596
 starts-yes = (65, 7, (refl, record { repetition = (2, lit≤ tt, refl); base = lit≤ tt; again = (0, refl) }), refl)
 
-pub starts-no : StartsAt settings (Sends (record { slot = 7; repetition = 4; base = 1 })) 162597 → ⊥
+pub starts-no : StartsAt settings (Sends slot7) 162597 → ⊥
 starts-no at =
-    let f : Frame = record { slot = 7; repetition = 4; base = 1 } in
-    let start = starts-named settings f (record { slot = (lit≤ tt, lit≤ tt); repetition = (2, lit≤ tt, refl); base = lit≤ tt }) 162597 .1 at in
-    omega (arith, start .1)
+    let in-range : FrameInRange 93 slot7 = record { slot = (lit≤ tt, lit≤ tt); repetition = (2, lit≤ tt, refl); base = lit≤ tt } in
+    omega (arith, starts-named settings slot7 in-range 162597 .1 at .1)
 
 pub behind-yes : Behind 1 (5 ∷ 6 ∷ []) (7 ∷ 6 ∷ [])
 behind-yes = (refl, stays)
@@ -208,6 +214,10 @@ raised-yes = record { unit = refl; period = refl; offset = refl; size = refl; ra
 
 pub raised-no : RaisedSignal fresh (signalAt lower 1) → ⊥
 raised-no h = omega (arith, h .raised)
+
+-- a bound raised past the period
+pub raised-no-past : RaisedSignal fresh (record { unit = 1; period = 2500; offset = 0; size = 16; bound = 2501 }) → ⊥
+raised-no-past h = omega (arith, h .most)
 
 -- the first signal struck, and the second's bound raised
 pub eased-yes : Eased both case1

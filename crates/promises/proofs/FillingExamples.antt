@@ -6,18 +6,19 @@ use mathlib.Core.Logic.{inl, inr}
 use Prim.Native.Nat.{ℕ, zero, suc, _+_, _*_, _<_}
 use native.Mathlib.Omega.{arith}
 use lib.Dec.{lit≤}
-use lib.ListN.{getD}
+use Rattle.laws.specs.Lowest.{Between, EachTo}
 use Rattle.terms.specs.declared.Frame.{Frame}
-use Rattle.terms.specs.Ranges.{Between, Repetition}
-use Rattle.planner.specs.Lists.{signalAt}
-use Rattle.promises.specs.Shows.{frameOf, Sends}
-use Rattle.promises.specs.Filling.{Before, InUse, FillingShown}
-use Rattle.promises.specs.Inputs.{case1, slot-two}
+use Rattle.terms.specs.Ranges.{Repetition}
+use Rattle.terms.specs.Lists.{groupOf}
+use Rattle.cycles.specs.Frames.{Sends}
+use Rattle.filling.specs.Tables.{Before, InUse, FillingShown}
+use Rattle.promises.specs.Shows.{frameOf}
+use Rattle.promises.proofs.Inputs.{case1, words, slot-two}
 use Rattle.promises.proofs.Named.{at-one}
 
 -- the frames that results show; ages play no part
 abbrev shows : List ℕ → ℕ → Frame
-shows results = frameOf (λ p. getD results p 0)
+shows results = frameOf (words results)
 
 -- one signal each of units 1 and 2; three signals of unit 1
 abbrev two-units : List ℕ
@@ -32,14 +33,14 @@ abbrev case10 : ℕ → Frame
 case10 = shows (1 ∷ 1 ∷ 4 ∷ 0 ∷ 1 ∷ 0 ∷ 2 ∷ 0 ∷ 1 ∷ 3 ∷ 4 ∷ 0 ∷ [])
 
 -- equal repetitions go by place in the list
-pub before-yes : Before thrice case10 1 3
+pub before-yes : Before (groupOf thrice) case10 1 3
 before-yes = (refl, inr (refl, lit≤ tt))
 
-pub before-no : Before thrice case10 1 2 → ⊥
+pub before-no : Before (groupOf thrice) case10 1 2 → ⊥
 before-no (u, inl l) = omega (arith, l)
 before-no (u, inr (e, l)) = omega (arith, e)
 
-at-three : (P : ℕ → Type 0) → P 1 → P 2 → P 3 → (i : ℕ) → Between 1 3 i → P i
+at-three : (P : ℕ → Type 0) → P 1 → P 2 → P 3 → EachTo 3 P
 at-three P p q r zero b = absurd (omega (arith, b .0))
 at-three P p q r (suc zero) b = p
 at-three P p q r (suc (suc zero)) b = q
@@ -59,13 +60,13 @@ even k = (refl, record { repetition = two; base = lit≤ tt; again = (k, refl) }
 one-first : Sends (case10 1) 1 1
 one-first = (refl, record { repetition = four; base = lit≤ tt; again = (0, refl) })
 
-pub in-use-yes : InUse thrice case10 1 62
+pub in-use-yes : InUse 3 case10 1 62
 in-use-yes = (2, (lit≤ tt, lit≤ tt), even 31)
 
-pub in-use-no : InUse thrice case10 2 62 → ⊥
+pub in-use-no : InUse 3 case10 2 62 → ⊥
 in-use-no (j, b, sends) = omega (arith, at-three (λ i. case10 i .slot ≡ 1) refl refl refl j b, sends .0)
 
-pub filling-yes : FillingShown thrice case10
+pub filling-yes : FillingShown 3 (groupOf thrice) case10
 filling-yes =
     record {
       units = λ i j a b l. absurd (omega (arith, l, unit i a, unit j b));
@@ -75,14 +76,14 @@ filling-yes =
       first-free = λ i c a. at-three (λ i. c < case10 i .base → Taken i c) (first c) (λ l. absurd (omega (arith, l))) (third c) i a;
     }
   where
-    unit : (i : ℕ) → Between 1 3 i → signalAt thrice i .unit ≡ 1
-    unit = at-three (λ i. signalAt thrice i .unit ≡ 1) refl refl refl
+    unit : EachTo 3 (λ i. groupOf thrice i ≡ 1)
+    unit = at-three (λ i. groupOf thrice i ≡ 1) refl refl refl
 
-    slot : (i : ℕ) → Between 1 3 i → case10 i .slot ≡ 1
+    slot : EachTo 3 (λ i. case10 i .slot ≡ 1)
     slot = at-three (λ i. case10 i .slot ≡ 1) refl refl refl
 
     Taken : ℕ → ℕ → Type 0
-    Taken i c = (j : ℕ) × Between 1 3 j × Before thrice case10 j i × Sends (case10 j) (case10 i .slot) c
+    Taken i c = (j : ℕ) × Between 1 3 j × Before (groupOf thrice) case10 j i × Sends (case10 j) (case10 i .slot) c
 
     first : (c : ℕ) → c < 1 → Taken 1 c
     first zero l = (2, (lit≤ tt, lit≤ tt), (refl, inl (lit≤ tt)), even 0)
@@ -97,24 +98,24 @@ filling-yes =
 -- ---- one wrong plan for each sentence
 
 -- unit 2 before unit 1
-pub units-no : FillingShown two-units (shows (2 ∷ 0 ∷ 1 ∷ 0 ∷ 1 ∷ 0 ∷ 1 ∷ 0 ∷ [])) → ⊥
+pub units-no : FillingShown 2 (groupOf two-units) (shows (2 ∷ 0 ∷ 1 ∷ 0 ∷ 1 ∷ 0 ∷ 1 ∷ 0 ∷ [])) → ⊥
 units-no h = omega (arith, h .units 1 2 (lit≤ tt, lit≤ tt) (lit≤ tt, lit≤ tt) (lit≤ tt))
 
 -- one slot, but not the lowest
-pub lowest-no : FillingShown case1 (shows slot-two) → ⊥
+pub lowest-no : FillingShown 1 (groupOf case1) (shows slot-two) → ⊥
 lowest-no h =
     let first = h .lowest 1 1 (lit≤ tt, lit≤ tt) (lit≤ tt, lit≤ tt) in
     omega (arith, at-one (λ i. shows slot-two i .slot ≡ 2) refl (first .0) (first .1), first .2)
 
 -- in list order, repetitions 4, 4, 2: the frame of repetition 2 comes too late for the first slot
-pub onward-no : FillingShown thrice (shows (1 ∷ 0 ∷ 4 ∷ 0 ∷ 1 ∷ 1 ∷ 4 ∷ 0 ∷ 2 ∷ 0 ∷ 2 ∷ 0 ∷ [])) → ⊥
+pub onward-no : FillingShown 3 (groupOf thrice) (shows (1 ∷ 0 ∷ 4 ∷ 0 ∷ 1 ∷ 1 ∷ 4 ∷ 0 ∷ 2 ∷ 0 ∷ 2 ∷ 0 ∷ [])) → ⊥
 onward-no h = omega (arith, h .onward 3 1 (lit≤ tt, lit≤ tt) (lit≤ tt, lit≤ tt) (refl, inl (lit≤ tt)))
 
 -- three of repetition 2: one in slot 1 and two in slot 2, as few slots as any, but slot 1 was left half empty
 abbrev half-left : List ℕ
 half-left = 1 ∷ 0 ∷ 2 ∷ 0 ∷ 2 ∷ 0 ∷ 2 ∷ 0 ∷ 2 ∷ 1 ∷ 2 ∷ 0 ∷ []
 
-pub full-no : FillingShown thrice (shows half-left) → ⊥
+pub full-no : FillingShown 3 (groupOf thrice) (shows half-left) → ⊥
 full-no h =
     let used = h .full 1 2 1 (lit≤ tt, lit≤ tt) (lit≤ tt, lit≤ tt) (refl, inr (refl, lit≤ tt)) (lit≤ tt) (lit≤ tt) in
     at-three (λ i. Sends (shows half-left i) 1 1 → ⊥) (λ t. odd (t .1 .again .0) (t .1 .again .1)) (λ t. omega (arith, t .0))
@@ -127,11 +128,11 @@ full-no h =
 abbrev late : ℕ → Frame
 late = shows (1 ∷ 1 ∷ 2 ∷ 0 ∷ [])
 
-pub first-free-no : FillingShown case1 late → ⊥
+pub first-free-no : FillingShown 1 (groupOf case1) late → ⊥
 first-free-no h =
     let f = h .first-free 1 0 (lit≤ tt, lit≤ tt) (lit≤ tt) in
-    itself (at-one (λ i. Before case1 late i 1 → Before case1 late 1 1) (λ b. b) (f .0) (f .1) (f .2))
+    itself (at-one (λ i. Before (groupOf case1) late i 1 → Before (groupOf case1) late 1 1) (λ b. b) (f .0) (f .1) (f .2))
   where
-    itself : Before case1 late 1 1 → ⊥
+    itself : Before (groupOf case1) late 1 1 → ⊥
     itself (u, inl l) = omega (arith, l)
     itself (u, inr (e, l)) = omega (arith, l)

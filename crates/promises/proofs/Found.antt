@@ -1,146 +1,105 @@
 -- What an accepted call has found and shows: over words, and of a book in bytes.
 -- Assumes nothing.
-use mathlib.Core.Path.{_≡_, refl, _∙_, sym, ap, subst}
-use mathlib.Core.Bool.{true≢false}
+use mathlib.Core.Path.{_≡_, _∙_, sym, subst}
 use mathlib.Core.List.{List}
-use mathlib.Core.Logic.{inl, inr}
-use Prim.Native.Nat.{ℕ, _*_}
-use native.Mathlib.Omega.{arith}
+use Prim.Native.Nat.{ℕ, _*_, _≤_}
 use lib.ListN.{length}
-use borrow.Author.Tests.{eq-eqb}
+use Rattle.laws.specs.Rows.{Row, Hold}
+use Rattle.laws.proofs.RowLaws.{Numbered, zero-holds, hold-front, hold-rest}
 use Rattle.terms.specs.declared.Settings.{Settings}
 use Rattle.terms.specs.declared.Answer.{Answer}
-use Rattle.terms.specs.Answers.{numberOf, placeOf}
-use Rattle.planner.specs.Lists.{CountInRange, count}
-use Rattle.planner.specs.Filled.{needed}
-use Rattle.planner.specs.Asked.{Refused}
-use Rattle.planner.specs.AskedLaws.{refusal-number}
-use Rattle.planner.specs.Planned.{Planned}
-use Rattle.planner.specs.Planned.Planned.{refused, done}
+use Rattle.terms.specs.Answers.{numberOf, placeOf, Answers}
+use Rattle.terms.specs.Requests.{Request, PlanRoom}
+use Rattle.terms.specs.Ranges.{SettingsInRange, SignalInRange}
+use Rattle.terms.specs.Lists.{CountInRange, count, EachSignal}
+use Rattle.terms.specs.Results.{resultSize}
+use Rattle.rule.specs.Rule.{Kept, Repetitions}
+use Rattle.filling.specs.Filled.{needed, filled}
+use Rattle.filling.specs.Shown.{CellsShow, EachResult}
 use Rattle.book.specs.Words.{wordAt}
-use Rattle.book.specs.Reading.{sound, judged, settingsIn, listIn}
-use Rattle.book.proofs.SoundLaws.{sound-facts, sound-count}
-use Rattle.book.proofs.AcceptedLaws.{list-length}
-use Rattle.editor.specs.BookPlan.{bookQuestions, BytesPlanned, BookPlanned}
-use Rattle.editor.specs.BookPlan.BytesPlanned.{refused as bytes-refused, done as bytes-done}
-use Rattle.editor.specs.BookPlan.BookPlanned.{unread, planned}
-use Rattle.promises.specs.Calls.{Request, PlanRoom, Return, Plans, PlansBook}
-use Rattle.promises.specs.Shows.{frameOf, ageOf, overWords}
-use Rattle.promises.specs.Demand2.{TableShown, Behind}
-use Rattle.promises.specs.Demand3.{AcceptedPlan}
-use Rattle.promises.proofs.Accepted.{Fillable, ShowsFilled, plan-accepted}
-use Rattle.promises.proofs.Words.{words-show, table-shown}
-use Rattle.promises.proofs.Bytes.{bytes-show, bytes-behind}
-use Rattle.promises.proofs.Demand1.{book-plans}
+use Rattle.book.specs.Reading.{settingsIn, listIn, bookRows}
+use Rattle.book.proofs.AcceptedLaws.{list-in-range}
+use Rattle.planner.specs.Rows.{Needed, signalRows, planningRows}
+use Rattle.planner.proofs.PlannedLaws.{needed-same}
+use Rattle.planner.proofs.Unique.{planning-numbered}
+use Rattle.editor.specs.Rows.{resultBytes, bytesRows, editorRows}
+use Rattle.editor.specs.Answered.{BookPlanned}
+use Rattle.editor.proofs.Unique.{editor-numbered}
+use Rattle.promises.specs.Calls.{Return, Tells, Plans}
+use Rattle.promises.specs.Shows.{overWords}
+use Rattle.promises.specs.Demand2.{Behind}
 
 pub record FoundPlan (s : Settings) (list : List ℕ) (place : ℕ) (word : ℕ → ℕ) : Type 0 where
+  pub settings : SettingsInRange s
+  pub whole : CountInRange list
+  pub signals : EachSignal list (SignalInRange s)
+  pub kept : EachSignal list (Kept s)
   pub R : ℕ → ℕ
-  pub fillable : Fillable s list R
-  pub shows : ShowsFilled s list R word
+  pub rule : Repetitions s list R
+  pub fits : needed list R ≤ s .slots
   pub needs : place ≡ needed list R
+  pub results : EachResult s list (filled list R) word
 
--- it is an accepted plan
-pub found-accepted : (s : Settings) (list : List ℕ) (place : ℕ) (word : ℕ → ℕ) → FoundPlan s list place word
-    → AcceptedPlan s list place (frameOf word) (ageOf word)
-found-accepted s list place word f =
-    subst (λ (n : ℕ). AcceptedPlan s list n (frameOf word) (ageOf word)) (sym (f .needs))
-    (plan-accepted s list (f .R) (f .fillable) word (f .shows))
+-- the rows of the signals hold, and the words show the filling
+module _ (s : Settings) (list : List ℕ) (place : ℕ) (word : ℕ → ℕ) where
+  abbrev found : SettingsInRange s → CountInRange list → Hold (signalRows s list) → Needed s list place → (R : ℕ → ℕ) → Repetitions s list R
+      → EachResult s list (filled list R) word → FoundPlan s list place word
+  found settings whole (signals, (kept, (fits, u))) (Q, q, e) R r results =
+      record {
+        settings = settings;
+        whole = whole;
+        signals = signals;
+        kept = kept;
+        R = R;
+        rule = r;
+        fits = fits R r;
+        needs = e ∙ needed-same s list Q q R r;
+        results = results;
+      }
 
--- ---- over words: the table too, and what lies behind
+-- where the number of a return is 0, all rows of its answer hold, and its place is done
+pub told-holds : {Room : Type 0} (rows : List Row) (done : ℕ → Type 0) → Numbered rows → (a : Answer) (y : Return Room) → Tells a y
+    → Answers rows done a → y .number ≡ 0 → (numberOf a ≡ 0) × Hold rows × done (y .place)
+told-holds rows done k a y t f z =
+    let e = sym (t .0) ∙ z in
+    let h = zero-holds done (numberOf a) (placeOf a) rows k f e in
+    (e, h .0, subst done (sym (t .1)) (h .1))
 
+-- over words: the cells too, and what lies behind
 pub record WordsFound (x : Request) (l : PlanRoom) (place : ℕ) (exit : PlanRoom) : Type 0 where
   pub found : FoundPlan (x .settings) (x .list) place (overWords .word exit)
-  pub table : TableShown (x .settings) (count (x .list)) (frameOf (overWords .word exit)) (exit .cells)
-  pub cells-behind : Behind (64 * x .settings .slots) (l .cells) (exit .cells)
-  pub results-behind : Behind (4 * count (x .list)) (l .results) (exit .results)
+  pub cells : CellsShow (x .settings .slots) (filled (x .list) (found .R)) (l .cells) (exit .cells)
+  pub behind : Behind (resultSize * count (x .list)) (l .results) (exit .results)
 
-pub words-found : (x : Request) (l : PlanRoom) (y : Return PlanRoom) → Plans x l y → y .number ≡ 0
-    → WordsFound x l (y .place) (y .lent)
+pub words-found : (x : Request) (l : PlanRoom) (y : Return PlanRoom) → Plans x l y → y .number ≡ 0 → WordsFound x l (y .place) (y .lent)
 words-found x l y (a, p, t) z =
-    subst (λ (n : ℕ). WordsFound x l n (y .lent)) (sym (t .1))
-    (accepted a (y .lent .cells) (y .lent .results) p (sym (t .0) ∙ z))
-  where
-    accepted : (a : Answer) (cells results : List ℕ)
-        → Planned (x .settings) (x .list) (l .cells) (l .results) a cells results → numberOf a ≡ 0
-        → WordsFound x l (placeOf a) (record { cells = cells; results = results })
-    accepted a cells results (refused r) z =
-        absurd (refusal-number (x .settings) (x .list) (length (l .cells)) (length (l .results)) a r z)
-    accepted a cells results (done R p plan) z =
-        let signals = p .1 .1 .1 .1 in
-        let h : Fillable (x .settings) (x .list) R =
-        record {
-          settings = p .0;
-          whole = p .1 .0;
-          signals = signals .0;
-          kept = signals .1 .0;
-          found = plan .repetitions;
-          fits = signals .1 .1 .0 R (plan .repetitions);
-        } in
-        record {
-          found =
-              record {
-                R = R;
-                fillable = h;
-                shows = words-show (x .settings) (x .list) R h (l .cells) (l .results) cells results plan;
-                needs = refl;
-              };
-          table = table-shown (x .settings) (x .list) R h (l .cells) (l .results) cells results plan;
-          cells-behind = (plan .table .same-length, plan .table .later);
-          results-behind = (plan .shown .same-length, plan .shown .later);
-        }
+    let h = told-holds (planningRows x l) (Needed (x .settings) (x .list)) (planning-numbered x l) a y t (p .answer) z in
+    let shown = p .done (h .0) in
+    record {
+      found =
+          found (x .settings) (x .list) (y .place) (overWords .word (y .lent)) (h .1 .0) (h .1 .1 .0) (h .1 .1 .1 .1 .1) (h .2) (shown .R)
+          (shown .repetitions) (shown .results .shown);
+      cells = shown .cells;
+      behind = (shown .results .same-length, shown .results .later);
+    }
 
--- ---- of a book
-
+-- of a book
 pub record BookFound (book l : List ℕ) (place : ℕ) (exit : List ℕ) : Type 0 where
   pub found : FoundPlan (settingsIn book) (listIn book) place (wordAt exit)
-  pub behind : Behind (16 * count (listIn book)) l exit
+  pub behind : Behind (resultBytes (listIn book)) l exit
 
--- a refusal is never number 0
-not-refused : (s : Settings) (list : List ℕ) (bytes : ℕ) (a : Answer) → Refused (bookQuestions s list bytes) a
-    → numberOf a ≡ 0 → ⊥
-not-refused s list bytes a (inl (f, (w, l, e))) z = omega (arith, ap numberOf e, z)
-not-refused s list bytes a (inr (h, inl (f, e))) z = omega (arith, ap numberOf e, z)
-not-refused s list bytes a (inr (h, inr (k, inl (f, (i, l, e))))) z = omega (arith, ap numberOf e, z)
-not-refused s list bytes a (inr (h, inr (k, inr (m, inl (f, (i, l, e)))))) z = omega (arith, ap numberOf e, z)
-not-refused s list bytes a (inr (h, inr (k, inr (m, inr (n, inl (f, (R, r, e))))))) z = omega (arith, ap numberOf e, z)
-not-refused s list bytes a (inr (h, inr (k, inr (m, inr (n, inr f))))) z = f .1
-
-pub book-found : (book l : List ℕ) (y : Return (List ℕ)) → PlansBook book l y → y .number ≡ 0
+pub book-found : (book l : List ℕ) (y : Return (List ℕ)) (a : Answer) → BookPlanned book l a (y .lent) → Tells a y → y .number ≡ 0
     → BookFound book l (y .place) (y .lent)
-unfolding sound
-book-found book l y p z =
-    let q = book-plans book l y p in
-    subst (λ (n : ℕ). BookFound book l n (y .lent)) (sym (q .2 .1)) (read (q .0) (y .lent) (q .1) (sym (q .2 .0) ∙ z))
-  where
-    accepted : CountInRange (listIn book) → (a : Answer) (exit : List ℕ)
-        → BytesPlanned (settingsIn book) (listIn book) l a exit → numberOf a ≡ 0
-        → BookFound book l (placeOf a) exit
-    accepted whole a exit (bytes-refused r) z = absurd (not-refused (settingsIn book) (listIn book) (length l) a r z)
-    accepted whole a exit (bytes-done {blank} {words} R p found shown) z =
-        let signals = p .1 .1 in
-        let h : Fillable (settingsIn book) (listIn book) R =
-        record {
-          settings = p .0;
-          whole = whole;
-          signals = signals .0;
-          kept = signals .1 .0;
-          found = found;
-          fits = signals .1 .1 .0 R found;
-        } in
-        record {
-          found =
-              record {
-                R = R;
-                fillable = h;
-                shows = bytes-show (settingsIn book) (listIn book) l (p .1 .0) R h blank words shown;
-                needs = refl;
-              };
-          behind = bytes-behind (settingsIn book) (listIn book) l (p .1 .0) R h blank words shown;
-        }
-
-    read : (a : Answer) (exit : List ℕ) → BookPlanned book l a exit → numberOf a ≡ 0 → BookFound book l (placeOf a) exit
-    read a exit (unread h) z = absurd (true≢false (sym (eq-eqb (numberOf (judged book)) 0 z) ∙ h))
-    read a exit (planned h p) z =
-        let few = sound-count book (sound-facts book h) .0 in
-        accepted
-        (record { whole = omega (arith, list-length book); few = omega (arith, list-length book, few) }) a exit p z
+book-found book l y a p t z =
+    let s = settingsIn book in
+    let list = listIn book in
+    let h = told-holds (editorRows book (length l)) (Needed s list) (editor-numbered book (length l)) a y t (p .answer) z in
+    let sound = hold-front (bookRows book) (bytesRows s list (length l)) (h .1) in
+    let asked = hold-rest (bookRows book) (bytesRows s list (length l)) (h .1) in
+    let shown = p .done (h .0) in
+    record {
+      found =
+          found s list (y .place) (wordAt (y .lent)) (asked .0) (list-in-range book sound) (asked .1 .1) (h .2) (shown .R) (shown .repetitions)
+          (shown .results);
+      behind = (shown .same-length, shown .later);
+    }

@@ -1,46 +1,58 @@
--- Plans, tables and books: of what the demands say of them, one thing that satisfies it and one that does not, on lists that are
--- not empty; and what every routine that keeps the demands gives of cases 1, 3 and 12.
+-- Plans and tables: of what the demands say of them, one thing that satisfies it and one that does not, on lists that are not
+-- empty; and what every routine that keeps the demands gives of cases 1, 3 and 12.
 -- Assumes nothing.
 use mathlib.Core.Path.{_≡_, refl, _∙_, sym, ap, subst}
-use mathlib.Core.Bool.{true, true≢false}
 use mathlib.Core.List.{List, [], _∷_, _++_}
 use mathlib.Core.Logic.{inl, inr, _↔_, dite}
 use Prim.Native.Nat.{ℕ, _+_, _*_, _-_, _≤_, _<_, zero-le}
 use native.Mathlib.Decide.{ℕ-discrete}
 use native.Mathlib.Omega.{arith}
 use lib.Dec.{lit≤}
-use lib.ListN.{length, getD, drop, replicate, getD-replicate, length-replicate, List·getD-append}
+use lib.ListN.{length, getD, replicate, getD-replicate, length-replicate, List·getD-append}
 use lib.Seq.{getD-append-add}
-use Rattle.laws.specs.DivisorLaws.{euclid}
+use Rattle.laws.specs.Sums.{sum, same}
+use Rattle.laws.specs.Lowest.{Between, EachTo}
+use Rattle.laws.proofs.RowLaws.{one-outcome}
+use Rattle.laws.proofs.LowestLaws.{lowest-not-each}
+use Rattle.laws.proofs.DivisorLaws.{euclid}
 use Rattle.terms.specs.declared.Settings.{Settings}
 use Rattle.terms.specs.declared.Frame.{Frame}
-use Rattle.terms.specs.Ranges.{Between, SettingsInRange, SignalInRange, FrameInRange}
-use Rattle.age.specs.AgeTests.{age-test}
-use Rattle.rule.specs.Rule.{Keeps, segment}
-use Rattle.cycles.specs.Frames.{Names}
-use Rattle.filling.specs.Sums.{sum, total, same}
-use Rattle.planner.specs.Lists.{CountInRange, count, signalAt, EachSignal, Repetitions}
-use Rattle.planner.specs.Filled.{unitFrames, needed}
-use Rattle.planner.specs.JudgedLaws.{needed-same}
-use Rattle.book.specs.Reading.{sound, judged, lengthRight, listIn}
-use Rattle.promises.specs.Calls.{Request, PlanRoom, Return, Routine}
-use Rattle.promises.specs.Shows.{frameOf, ageOf, cellOf, Sends, overWords, fromBook}
+use Rattle.terms.specs.Ranges.{SettingsInRange, SignalInRange, FrameInRange}
+use Rattle.terms.specs.Lists.{CountInRange, count, signalAt, EachSignal, groupOf}
+use Rattle.terms.specs.Requests.{Request, PlanRoom, planRoom}
+use Rattle.age.proofs.AgeTests.{age-test}
+use Rattle.rule.specs.Rule.{Keeps, segment, Kept, Repetitions}
+use Rattle.cycles.specs.Frames.{Sends}
+use Rattle.filling.specs.Shown.{cellOf}
+use Rattle.filling.specs.Filled.{needed}
+use Rattle.filling.specs.Tables.{Drawn, slotsUsed}
+use Rattle.planner.specs.Rows.{Needed, planningRows}
+use Rattle.planner.proofs.Unique.{needed-one, planning-single}
+use Rattle.book.specs.Reading.{listIn}
+use Rattle.promises.specs.Calls.{Return, Routine}
+use Rattle.promises.specs.Shows.{frameOf, ageOf, overWords, fromBook}
+use Rattle.promises.specs.Tables.{Table, slotsShown}
 use Rattle.promises.specs.Demand1.{Demand1Planning}
-use Rattle.promises.specs.Demand2.{AgeShown, TableShown, Demand2Planning, GivenBack, WrittenBack}
-use Rattle.promises.specs.Tables.{Table, slotsUsed}
+use Rattle.promises.specs.Demand2.{AgeShown, TableShown, Demand2Planning}
 use Rattle.promises.specs.Demand3.{AcceptedPlan, Ready, Demand3}
-use Rattle.promises.specs.Rows.{FirstRow, Hold, Needed, planningRows, bookRows, writingRows}
-use Rattle.promises.specs.Inputs.{settings, asked, fresh, case1, case3, single, blank, case1-results, case1-cells, sixty-four, case1-book}
-use Rattle.promises.proofs.Named.{Gets, fresh-valid, fresh-gets, half-gets, fresh-keeps, one, at-one, slot1, case1-table, ready, case1-ready, case3-ready, case1-holds}
-use Rattle.promises.proofs.Clock.{starts-named, starts-shown}
-use Rattle.promises.proofs.Consequences.{each-number}
-use Rattle.promises.proofs.Examples.{each-yes, kept-no}
-use Rattle.promises.proofs.Fewest.{needed-least}
+use Rattle.promises.proofs.Inputs.{settings, asked, fresh, case1, case3, single, blank}
+use Rattle.promises.proofs.Inputs.{words, case1-results, case1-cells, sixty-four, invented, case1-book}
+use Rattle.promises.proofs.Named.{Gets, fresh-valid, fresh-gets, half-gets, fresh-keeps, every, at-one, alone, slot1, slot1-in-range}
+use Rattle.promises.proofs.Named.{case1-table, case1-count, ready, case1-ready, case3-ready, case1-holds}
 use Rattle.promises.proofs.Releasing.{releases}
-use Rattle.promises.proofs.RowLaws.{sound-rows, rows-sound}
+use Rattle.promises.proofs.Clock.{starts-named, starts-shown}
+use Rattle.promises.proofs.Accepted.{needed-least}
+use Rattle.promises.proofs.Examples.{each-yes, kept-no, lowest-signal-yes}
 use Rattle.promises.proofs.Shams.{refuses-all}
 
 -- ---- tables
+
+pub drawn-yes : Drawn 93 1 (groupOf case1) (λ i. slot1)
+drawn-yes = case1-table .drawn
+
+-- two frames in slot 1 of cycle 0
+pub drawn-no : Drawn 93 2 (λ i. 1) (frameOf (words invented)) → ⊥
+drawn-no h = omega (arith, h .apart 1 2 1 0 (lit≤ tt, lit≤ tt) (lit≤ tt, lit≤ tt) (lit≤ tt) (refl, every 0) (refl, every 0))
 
 pub table-yes : Table settings case1 (λ i. slot1)
 table-yes = case1-table
@@ -48,51 +60,46 @@ table-yes = case1-table
 pub table-no : (frame : ℕ → Frame) → Table settings case3 frame → ⊥
 table-no frame t =
     let b : Between 1 1 1 = (lit≤ tt, lit≤ tt) in
-    kept-no (frame 1 .repetition, t .frames 1 b .repetition, t .keeps 1 b)
+    kept-no (frame 1 .repetition, t .drawn .frames 1 b .repetition, t .keeps 1 b)
 
-abbrev lent : List ℕ → PlanRoom
-lent results = record { cells = blank; results = results }
+pub ready-yes : Ready overWords (asked case1) (planRoom blank (0 ∷ 0 ∷ 0 ∷ 0 ∷ []))
+ready-yes = case1-ready (planRoom blank (0 ∷ 0 ∷ 0 ∷ 0 ∷ [])) (omega (arith, length-replicate {A = ℕ} 5952 0)) (lit≤ tt)
 
-pub ready-yes : Ready overWords (asked case1) (lent (0 ∷ 0 ∷ 0 ∷ 0 ∷ []))
-ready-yes = case1-ready (lent (0 ∷ 0 ∷ 0 ∷ 0 ∷ [])) (omega (arith, length-replicate {A = ℕ} 5952 0)) (lit≤ tt)
-
-pub ready-no : Ready overWords (asked case1) (lent []) → ⊥
+pub ready-no : Ready overWords (asked case1) (planRoom blank []) → ⊥
 ready-no h = omega (arith, h .enough .1)
 
 pub ready-book-yes : Ready fromBook case1-book (replicate 16 0)
 ready-book-yes =
     record {
       settings = subst SettingsInRange (sym (case1-holds .settings-in)) (fresh-valid .settings);
-      whole = subst CountInRange (sym (case1-holds .list-in)) (record { whole = refl; few = lit≤ tt });
+      whole = subst CountInRange (sym (case1-holds .list-in)) case1-count;
       signals =
           subst (λ (s : Settings). EachSignal (listIn case1-book) (SignalInRange s)) (sym (case1-holds .settings-in))
           (subst (λ (l : List ℕ). EachSignal l (SignalInRange settings)) (sym (case1-holds .list-in)) each-yes);
       enough = (
-        sound-rows case1-book (case1-holds .whole),
+        case1-holds .sound,
         omega (arith, ap (λ (l : List ℕ). count l) (case1-holds .list-in), length-replicate {A = ℕ} 16 0),
       );
     }
 
 -- ---- the plan of case 1
 
-abbrev word : ℕ → ℕ
-word p = getD case1-results p 0
-
 abbrev frame : ℕ → Frame
-frame i = frameOf word i
+frame = frameOf (words case1-results)
 
-in-range : (i : ℕ) → Between 1 1 i → FrameInRange settings (frame i)
-in-range =
-    at-one (λ i. FrameInRange settings (frame i))
-    (record { slot = (lit≤ tt, lit≤ tt); repetition = one; base = lit≤ tt })
+abbrev age : ℕ → ℕ
+age = ageOf (words case1-results)
+
+in-range : EachTo 1 (λ i. FrameInRange 93 (frame i))
+in-range = at-one (λ i. FrameInRange 93 (frame i)) slot1-in-range
 
 pub age-shown-yes : AgeShown settings fresh (frame 1) 16
 unfolding euclid
 age-shown-yes =
     record {
       releases = releases 0 2500 (lit≤ tt);
-      frame = in-range 1 (lit≤ tt, lit≤ tt);
-      starts = starts-named settings (frame 1) (in-range 1 (lit≤ tt, lit≤ tt));
+      frame = slot1-in-range;
+      starts = starts-named settings (frame 1) slot1-in-range;
       is-age = age-test settings fresh (frame 1) 16 .1 tt .1;
     }
 
@@ -112,9 +119,6 @@ behind j l h =
     ap (λ (n : ℕ). getD case1-cells n 0) at
     ∙ getD-append-add (replicate 64 1) (replicate 5888 0) (j - 64) 0
     ∙ getD-replicate 5888 (j - 64) 0 0 (omega (arith, l, h))
-
-every : (c : ℕ) → Names 1 0 c
-every c = record { repetition = one; base = lit≤ tt; again = (c, omega arith) }
 
 here : (k c : ℕ) → Between 1 93 k → c < 64 → cellOf case1-cells k c ≡ 1 → 1 ≡ k
 here k c b l e =
@@ -146,12 +150,14 @@ table-shown-no h =
     let one-there = h .shown 1 0 1 (lit≤ tt, lit≤ tt) (lit≤ tt) (lit≤ tt, lit≤ tt) .1 (refl, every 0) in
     omega (arith, one-there, getD-replicate {A = ℕ} 5952 0 0 0 (lit≤ tt))
 
--- the rule gives the signal of case 1 repetition 1, and 5000/0/5000 not 1 but 2
-case1-repetitions : Repetitions settings case1 (λ i. 1)
-case1-repetitions = at-one (λ i. Gets (signalAt case1 i) 1) fresh-gets
+-- of two slots shown, one is in use
+pub one-shown : slotsShown 2 (replicate 64 1 ++ replicate 64 0) ≡ 1
+unfolding sum
+one-shown = refl
 
+-- the rule gives the signal of case 1 repetition 1, and 5000/0/5000 not 1 but 2
 pub repetitions-yes : Repetitions settings case1 (λ i. 1)
-repetitions-yes = case1-repetitions
+repetitions-yes = at-one (λ i. Gets (signalAt case1 i) 1) fresh-gets
 
 pub repetitions-no : Repetitions settings single (λ i. 1) → ⊥
 repetitions-no r =
@@ -159,50 +165,45 @@ repetitions-no r =
     omega (arith, r 1 (lit≤ tt, lit≤ tt) .largest 2 (two .0) (two .1))
 
 needs-one : needed case1 (λ i. 1) ≡ 1
-unfolding sum total unitFrames
+unfolding sum same
 needs-one = refl
 
 pub needed-yes : Needed settings case1 1
-needed-yes = ((λ i. 1), case1-repetitions, sym needs-one)
+needed-yes = ((λ i. 1), repetitions-yes, sym needs-one)
 
 pub needed-no : Needed settings case1 2 → ⊥
-needed-no (R, r, e) = omega (arith, e, needed-same settings case1 R (λ i. 1) r case1-repetitions, needs-one)
+needed-no h = omega (arith, needed-one settings case1 2 1 h needed-yes)
 
 -- no table of case 1 uses fewer slots than one, and there is one that uses one
 one-least : (other : ℕ → Frame) → Table settings case1 other → 1 ≤ slotsUsed 93 1 other
 one-least other t =
-    subst (λ (n : ℕ). n ≤ slotsUsed 93 1 other) needs-one
-    (needed-least settings case1 (λ i. 1) other case1-repetitions t)
+    subst (λ (n : ℕ). n ≤ slotsUsed 93 1 other) needs-one (needed-least settings case1 (λ i. 1) repetitions-yes other t)
 
 uses-one : slotsUsed 93 1 (λ i. slot1) ≡ 1
 unfolding sum same
 uses-one = refl
 
-pub accepted-yes : AcceptedPlan settings case1 1 frame (ageOf word)
+pub accepted-yes : AcceptedPlan settings case1 1 frame age
 unfolding sum same
 accepted-yes =
     record {
       rule = at-one (λ i. Gets (signalAt case1 i) (frame i .repetition)) fresh-gets;
       table =
           record {
-            frames = in-range;
-            keeps =
-                at-one (λ i. Keeps settings (signalAt case1 i) (segment settings) (frame i .repetition)) fresh-keeps;
-            apart = λ i j k c a b l m n. omega (arith, a, b);
-            one-unit = λ i j a b e. let same-one : i ≡ j = omega (arith, a, b) in ap
-                (λ (k : ℕ). signalAt case1 k .unit) same-one;
+            drawn = alone 93 frame slot1-in-range;
+            keeps = at-one (λ i. Keeps settings (signalAt case1 i) (segment settings) (frame i .repetition)) fresh-keeps;
           };
-      bounds = at-one (λ i. ageOf word i ≤ signalAt case1 i .bound) (lit≤ tt);
+      bounds = at-one (λ i. age i ≤ signalAt case1 i .bound) (lit≤ tt);
       used = refl;
       fewest = one-least;
     }
 
 -- repetition 64, over the bound; and two slots claimed
 pub accepted-no-64 : (place : ℕ)
-    → AcceptedPlan settings case1 place (frameOf (λ p. getD sixty-four p 0)) (ageOf (λ p. getD sixty-four p 0)) → ⊥
+    → AcceptedPlan settings case1 place (frameOf (words sixty-four)) (ageOf (words sixty-four)) → ⊥
 accepted-no-64 place h = omega (arith, h .bounds 1 (lit≤ tt, lit≤ tt))
 
-pub accepted-no-two : AcceptedPlan settings case1 2 frame (ageOf word) → ⊥
+pub accepted-no-two : AcceptedPlan settings case1 2 frame age → ⊥
 accepted-no-two h = omega (arith, h .used, accepted-yes .used)
 
 -- ---- cases 1, 3 and 12, of every routine that keeps the demands
@@ -219,11 +220,14 @@ module _ (Gives : Routine Request PlanRoom) (l : PlanRoom) (y : Return PlanRoom)
       (number, omega (arith, a .fewest (λ i. slot1) case1-table, uses-one, one-least _ (a .table), a .used))
 
   -- case 3 is refused with 8, at signal 1
-  pub case3-refused : Demand1Planning Gives → 4 ≤ length (l .results) → Gives (asked case3) l y → y .number ≡ 8
+  pub case3-refused : Demand1Planning Gives → 4 ≤ length (l .results) → Gives (asked case3) l y
+      → (y .number ≡ 8) × (y .place ≡ 1)
   case3-refused keeps results g =
       let h = case3-ready l cells results in
-      each-number planningRows (λ x. Needed (x .settings) (x .list)) Gives keeps (asked case3) l y g 8 .1
-      (inr (h .settings, inr (h .whole, inr (cells, inr (results, inr (h .signals, inl ((λ k. kept-no (k 1 (lit≤ tt, lit≤ tt))), refl)))))))
+      let none = lowest-not-each 1 (λ i. Kept settings (signalAt case3 i)) 1 lowest-signal-yes in
+      one-outcome (planningRows (asked case3) l) (Needed settings case3) (needed-one settings case3) (planning-single (asked case3) l)
+      (y .number) 8 (y .place) 1 (keeps .numbered (asked case3) l y g)
+      (inr (h .settings, inr (h .whole, inr (cells, inr (results, inr (h .signals, inl (none, refl, lowest-signal-yes)))))))
 
   -- case 12: the empty list is done, with a table all 0
   pub case12-done : Demand3 overWords Gives → Demand2Planning Gives → Gives (asked []) l y
@@ -233,56 +237,15 @@ module _ (Gives : Routine Request PlanRoom) (l : PlanRoom) (y : Return PlanRoom)
       let room = ready l cells [] (record { whole = refl; few = lit≤ tt }) (λ i b. absurd (none i b)) zero-le in
       let table : Table settings [] (λ i. slot1) =
       record {
-        frames = λ i b. absurd (none i b);
+        drawn =
+            record {
+              frames = λ i b. absurd (none i b);
+              apart = λ i j k c a. absurd (none i a);
+              one-group = λ i j a. absurd (none i a);
+            };
         keeps = λ i b. absurd (none i b);
-        apart = λ i j k c a. absurd (none i a);
-        one-unit = λ i j a. absurd (none i a);
       } in
       let number : y .number ≡ 0 =
       dite (ℕ-discrete (y .number) 0) (λ e. e)
       (λ n. absurd (three .refused-exactly (asked []) l y g room .0 n (λ i. slot1) table)) in
       (number, λ k c b h. two .table (asked []) l y g number .empty k c b h .1 (λ i at. absurd (none i at)))
-
--- ---- books
-
-pub sound-yes : sound case1-book ≡ true
-sound-yes = case1-holds .whole
-
-pub sound-no : sound [] ≡ true → ⊥
-unfolding sound judged lengthRight
-sound-no e = true≢false (sym e)
-
-pub given-back-yes : GivenBack (asked case1) (7 ∷ 7 ∷ 7 ∷ 7 ∷ 7 ∷ 7 ∷ []) settings
-    (record { number = 0; place = 1; lent = 1 ∷ 2500 ∷ 0 ∷ 16 ∷ 2500 ∷ 7 ∷ [] })
-given-back-yes = record { accepted = refl; signals = refl; settings = refl; words = refl }
-
--- a reader that writes over what lies behind
-pub given-back-no :
-    GivenBack (asked case1) (7 ∷ 7 ∷ 7 ∷ 7 ∷ 7 ∷ 7 ∷ []) settings
-    (record { number = 0; place = 1; lent = 1 ∷ 2500 ∷ 0 ∷ 16 ∷ 2500 ∷ 0 ∷ [] }) → ⊥
-given-back-no h = omega (arith, ap (λ (l : List ℕ). getD l 5 0) (h .words))
-
--- the book given back, and a writer that refuses
-pub written-back-yes : (l : List ℕ)
-    → WrittenBack case1-book l (record { number = 0; place = 2; lent = case1-book ++ drop (length case1-book) l })
-written-back-yes l = record { accepted = refl; blocks = sym (case1-holds .bytes); bytes = refl }
-
-pub written-back-no : (lent : List ℕ) → WrittenBack case1-book [] (record { number = 4; place = 2; lent = lent }) → ⊥
-written-back-no lent h = omega (arith, h .accepted)
-
--- ---- rows
-
-pub hold-yes : Hold (bookRows case1-book)
-hold-yes = sound-rows case1-book (case1-holds .whole)
-
-pub hold-no : Hold (bookRows []) → ⊥
-hold-no h = sound-no (rows-sound [] h)
-
--- case 1 written into no room: 10, and 1,024 bytes needed
-pub first-row-yes : FirstRow (writingRows (asked case1) []) (λ p. p ≡ 2) 10 1024
-first-row-yes = inr (record { whole = refl; few = lit≤ tt }, inl ((λ h. omega (arith, h)), refl, refl))
-
-pub first-row-no : FirstRow (writingRows (asked case1) []) (λ p. p ≡ 2) 4 0 → ⊥
-first-row-no (inl (f, e, p)) = f (record { whole = refl; few = lit≤ tt })
-first-row-no (inr (k, inl (f, e, p))) = omega (arith, e)
-first-row-no (inr (k, inr (r, q))) = omega (arith, q .0)

@@ -6,32 +6,34 @@ use mathlib.Core.Path.{_≡_, refl, _∙_, sym, ap, subst}
 use mathlib.Core.List.{List}
 use mathlib.Core.Logic.{_⊎_, inl, inr, ⊎-elim, dite}
 use mathlib.Core.WellFounded.{fix}
-use Prim.Native.Nat.{ℕ, zero, suc, _+_, _*_, _-_, _/_, _%_, _≤_, _<_}
-use native.Mathlib.Decide.{ℕ-discrete, decLe}
-use native.Mathlib.Nat.{add-zero, lt-of-not-le}
+use Prim.Native.Nat.{ℕ, _+_, _*_, _-_, _/_, _%_, _<_}
+use native.Mathlib.Decide.{ℕ-discrete, decLt}
 use native.Mathlib.Omega.{arith}
 use lib.ListN.{getD}
 use lib.WfN.{Nat·lt-wfRel}
+use Rattle.laws.specs.Lowest.{Between, EachTo}
 use Rattle.terms.specs.declared.Settings.{Settings}
 use Rattle.terms.specs.declared.Frame.{Frame}
-use Rattle.terms.specs.Ranges.{Between, FrameInRange}
-use Rattle.terms.specs.RepetitionLaws.{repetition-most}
+use Rattle.terms.specs.Ranges.{FrameInRange}
+use Rattle.terms.specs.Lists.{count, signalAt, groupOf}
+use Rattle.terms.specs.Results.{resultSize, resultStart, resultAt}
+use Rattle.terms.proofs.RepetitionLaws.{repetition-most}
+use Rattle.terms.proofs.ResultsLaws.{same-words}
 use Rattle.age.specs.Age.{firstStart, spanOf, Age}
-use Rattle.age.specs.AgeLaws.{age-unique}
-use Rattle.planner.specs.Lists.{count, signalAt, Repetitions}
-use Rattle.planner.specs.JudgedLaws.{repetitions-same}
-use Rattle.promises.specs.Shows.{frameOf, ageOf, cellOf, Sends}
-use Rattle.promises.specs.Tables.{Table}
+use Rattle.age.proofs.AgeLaws.{age-unique}
+use Rattle.cycles.specs.Frames.{Sends}
+use Rattle.filling.specs.Shown.{cellOf}
+use Rattle.filling.specs.Tables.{Drawn, Before, FillingShown}
+use Rattle.planner.proofs.PlannedLaws.{repetitions-same}
+use Rattle.promises.specs.Shows.{frameOf, ageOf}
 use Rattle.promises.specs.Demand2.{AgeShown, TableShown}
 use Rattle.promises.specs.Demand3.{AcceptedPlan}
-use Rattle.promises.specs.Filling.{Before, FillingShown}
 
 -- ---- induction along an order
 
 -- two numbers stand in one of three ways
 compare : {A : Type 0} (m n : ℕ) → (m < n → A) → (m ≡ n → A) → (n < m → A) → A
-compare m n below equal above =
-    dite (ℕ-discrete m n) equal (λ d. dite (decLe m n) (λ l. below (omega arith)) (λ l. above (lt-of-not-le l)))
+compare m n below equal above = dite (decLt m n) below (λ g. dite (decLt n m) above (λ l. equal (omega arith)))
 
 -- what holds of a number whenever it holds of all that go before it, holds of every number
 abbrev Inducts : (Goes : (i j : ℕ) → Type 0) → Type 1
@@ -55,35 +57,31 @@ by-first f Goes inducts P step i =
 -- ---- one frame of each signal
 
 -- a frame goes out in the cycle of its base
-base-sent : {s : Settings} {f : Frame} → FrameInRange s f → {k : ℕ} → f .slot ≡ k → Sends f k (f .base)
+base-sent : {slots : ℕ} {f : Frame} → FrameInRange slots f → {k : ℕ} → f .slot ≡ k → Sends f k (f .base)
 base-sent h e = (e, record { repetition = h .repetition; base = h .base; again = (0, omega arith) })
 
-module _ (s : Settings) (list : List ℕ) where
+module _ (slots m : ℕ) (group : ℕ → ℕ) where
   abbrev Own : ℕ → Type 0
-  Own = Between 1 (count list)
-
-  abbrev unit : ℕ → ℕ
-  unit i = signalAt list i .unit
+  Own = Between 1 m
 
   -- what is used of a plan
   record FilledPlan (frame : ℕ → Frame) : Type 0 where
-    rule : Repetitions s list (λ i. frame i .repetition)
-    table : Table s list frame
-    filling : FillingShown list frame
+    drawn : Drawn slots m group frame
+    filling : FillingShown m group frame
 
   module _ (frame : ℕ → Frame) where
     -- one goes before another, over all units
     abbrev Earlier : (i j : ℕ) → Type 0
-    Earlier i j = (unit i < unit j) ⊎ Before list frame i j
+    Earlier i j = (group i < group j) ⊎ Before group frame i j
 
     -- of two frames of a unit one goes before the other
-    first-of : (i j : ℕ) → unit i ≡ unit j → (i ≡ j → ⊥) → Before list frame i j ⊎ Before list frame j i
+    first-of : (i j : ℕ) → group i ≡ group j → (i ≡ j → ⊥) → Before group frame i j ⊎ Before group frame j i
     first-of i j e d =
         compare (frame i .repetition) (frame j .repetition) (λ l. inl (e, inl l))
         (λ r. compare i j (λ l. inl (e, inr (r, l))) (λ z. absurd (d z)) (λ l. inr (sym e, inr (sym r, l))))
         (λ l. inr (sym e, inl l))
 
-    not-itself : (i j : ℕ) → i ≡ j → Before list frame i j → ⊥
+    not-itself : (i j : ℕ) → i ≡ j → Before group frame i j → ⊥
     not-itself i j e (u, h) = ⊎-elim (λ l. omega (arith, ap (λ (n : ℕ). frame n .repetition) e)) (λ l. omega arith) h
 
   -- two plans, in either role, that are the same as far as the frames before signal i
@@ -95,21 +93,21 @@ module _ (s : Settings) (list : List ℕ) where
       (own : Own i)
       (before : (j : ℕ) → Own j → Earlier frame′ j i → frame j ≡ frame′ j)
     where
-      in-range : FrameInRange s (frame i)
-      in-range = a .table .frames i own
+      in-range : FrameInRange slots (frame i)
+      in-range = a .drawn .frames i own
 
       cycle : frame i .base < 64
       cycle = omega (arith, in-range .base, repetition-most (frame i .repetition) (in-range .repetition))
 
       -- a frame that goes before i in the second is not in i's cell in the first
-      not-both :
-          (j k : ℕ) → Own j → Before list frame′ j i → frame i .slot ≡ k → Sends (frame′ j) k (frame i .base) → ⊥
+      not-both : (j k : ℕ) → Own j → Before group frame′ j i → frame i .slot ≡ k → Sends (frame′ j) k (frame i .base)
+          → ⊥
       not-both j k at b e sends =
           let also = subst (λ (f : Frame). Sends f k (frame i .base)) (sym (before j at (inr b))) sends in
-          not-itself frame′ j i (a .table .apart j i k (frame i .base) at own cycle also (base-sent in-range e)) b
+          not-itself frame′ j i (a .drawn .apart j i k (frame i .base) at own cycle also (base-sent in-range e)) b
 
       -- in the second, a frame of i's unit in a lower slot goes before i: `onward`
-      lower-before : (j : ℕ) → Own j → frame′ j .slot < frame′ i .slot → unit j ≡ unit i → Before list frame′ j i
+      lower-before : (j : ℕ) → Own j → frame′ j .slot < frame′ i .slot → group j ≡ group i → Before group frame′ j i
       lower-before j at l e =
           ⊎-elim (λ b. b) (λ b. absurd (omega (arith, a′ .filling .onward i j own at b)))
           (first-of frame′ j i e (λ z. omega (arith, ap (λ (n : ℕ). frame′ n .slot) z)))
@@ -119,16 +117,16 @@ module _ (s : Settings) (list : List ℕ) where
       no-lower-slot : frame i .slot < frame′ i .slot → ⊥
       no-lower-slot l = used (a′ .filling .lowest i (frame i .slot) own (in-range .slot .0, omega arith))
         where
-          taken : (j : ℕ) → Own j → frame′ j .slot ≡ frame i .slot → unit j ≡ unit i → ⊥
+          taken : (j : ℕ) → Own j → frame′ j .slot ≡ frame i .slot → group j ≡ group i → ⊥
           taken j at e u =
               let (n, here, sends) =
               a′ .filling .full j i (frame i .base) at own (lower-before j at (omega arith) u) (omega arith) cycle in
-              let of-unit = a′ .table .one-unit n j here at (sends .0) ∙ u in
+              let of-unit = a′ .drawn .one-group n j here at (sends .0) ∙ u in
               not-both n (frame′ j .slot) here (lower-before n here (omega (arith, sends .0)) of-unit) (sym e) sends
 
           used : (j : ℕ) × Own j × (frame′ j .slot ≡ frame i .slot) → ⊥
           used (j, at, e) =
-              compare (unit j) (unit i)
+              compare (group j) (group i)
               (λ u. omega (arith, a .filling .units j i at own u, ap (λ (f : Frame). f .slot) (before j at (inl u))))
               (taken j at e) (λ u. omega (arith, a′ .filling .units i j own at u))
 
@@ -138,67 +136,66 @@ module _ (s : Settings) (list : List ℕ) where
           let (j, at, b, sends) = a′ .filling .first-free i (frame i .base) own l in
           not-both j (frame′ i .slot) at b e sends
 
-  module _ (frame frame′ : ℕ → Frame) (a : FilledPlan frame) (a′ : FilledPlan frame′) where
-    same-repetition : (i : ℕ) → Own i → frame i .repetition ≡ frame′ i .repetition
-    same-repetition =
-        repetitions-same s list (λ i. frame i .repetition) (λ i. frame′ i .repetition) (a .rule) (a′ .rule)
+  module _
+      (frame frame′ : ℕ → Frame)
+      (a : FilledPlan frame)
+      (a′ : FilledPlan frame′)
+      (same-repetition : EachTo m (λ i. frame i .repetition ≡ frame′ i .repetition))
+    where
+      same-order : (i j : ℕ) → Own i → Own j → Earlier frame′ i j → Earlier frame i j
+      same-order i j b c (inl l) = inl l
+      same-order i j b c (inr (u, inl l)) = inr (u, inl (omega (arith, same-repetition i b, same-repetition j c)))
+      same-order i j b c (inr (u, inr (e, l))) = inr (u, inr (same-repetition i b ∙ e ∙ sym (same-repetition j c), l))
 
-    same-order : (i j : ℕ) → Own i → Own j → Earlier frame′ i j → Earlier frame i j
-    same-order i j b c (inl l) = inl l
-    same-order i j b c (inr (u, inl l)) = inr (u, inl (omega (arith, same-repetition i b, same-repetition j c)))
-    same-order i j b c (inr (u, inr (e, l))) = inr (u, inr (same-repetition i b ∙ e ∙ sym (same-repetition j c), l))
+      next-same : (i : ℕ) → Own i → ((j : ℕ) → Own j → Earlier frame j i → frame j ≡ frame′ j) → frame i ≡ frame′ i
+      next-same i own before =
+          let there : (j : ℕ) → Own j → Earlier frame′ j i → frame j ≡ frame′ j =
+          λ j at h. before j at (same-order j i at own h) in
+          let back : (j : ℕ) → Own j → Earlier frame j i → frame′ j ≡ frame j = λ j at h. sym (before j at h) in
+          let slot : frame i .slot ≡ frame′ i .slot =
+          equal (no-lower-slot frame frame′ a a′ i own there) (no-lower-slot frame′ frame a′ a i own back) in
+          let base : frame i .base ≡ frame′ i .base =
+          equal (no-lower-base frame frame′ a a′ i own there slot)
+          (no-lower-base frame′ frame a′ a i own back (sym slot)) in
+          λ k. record { slot = slot k; base = base k; repetition = same-repetition i own k }
+        where
+          equal : {m n : ℕ} → (m < n → ⊥) → (n < m → ⊥) → m ≡ n
+          equal {m} {n} p q = compare m n (λ l. absurd (p l)) (λ e. e) (λ l. absurd (q l))
 
-    next-same : (i : ℕ) → Own i → ((j : ℕ) → Own j → Earlier frame j i → frame j ≡ frame′ j) → frame i ≡ frame′ i
-    next-same i own before =
-        let there : (j : ℕ) → Own j → Earlier frame′ j i → frame j ≡ frame′ j =
-        λ j at h. before j at (same-order j i at own h) in
-        let back : (j : ℕ) → Own j → Earlier frame j i → frame′ j ≡ frame j = λ j at h. sym (before j at h) in
-        let slot : frame i .slot ≡ frame′ i .slot =
-        equal (no-lower-slot frame frame′ a a′ i own there) (no-lower-slot frame′ frame a′ a i own back) in
-        let base : frame i .base ≡ frame′ i .base =
-        equal (no-lower-base frame frame′ a a′ i own there slot)
-        (no-lower-base frame′ frame a′ a i own back (sym slot)) in
-        let repetition = same-repetition i own in
-        λ k. record { slot = slot k; base = base k; repetition = repetition k }
-      where
-        equal : {m n : ℕ} → (m < n → ⊥) → (n < m → ⊥) → m ≡ n
-        equal {m} {n} p q = compare m n (λ l. absurd (p l)) (λ e. e) (λ l. absurd (q l))
-
-    -- the order of filling: by unit, by repetition, by place in the list
-    all-same : (i : ℕ) → Own i → frame i ≡ frame′ i
-    all-same =
-        let R : ℕ → ℕ = λ i. frame i .repetition in
-        by-first unit (First R _<_) (by-first R _<_ by-number) (λ i. Own i → frame i ≡ frame′ i)
-        (λ i sooner own. next-same i own (λ j at h. sooner j h at))
+      -- the order of filling: by unit, by repetition, by place in the list
+      all-same : EachTo m (λ i. frame i ≡ frame′ i)
+      all-same =
+          let R : ℕ → ℕ = λ i. frame i .repetition in
+          by-first group (First R _<_) (by-first R _<_ by-number) (λ i. Own i → frame i ≡ frame′ i)
+          (λ i sooner own. next-same i own (λ j at h. sooner j h at))
 
 pub one-filling :
     (s : Settings) (list : List ℕ) (p q : ℕ) (frame frame′ : ℕ → Frame) (age age′ : ℕ → ℕ) →
     AcceptedPlan s list p frame age →
     AcceptedPlan s list q frame′ age′ →
-    FillingShown list frame →
-    FillingShown list frame′ →
-    (i : ℕ) →
-    Between 1 (count list) i →
-    frame i ≡ frame′ i
+    FillingShown (count list) (groupOf list) frame →
+    FillingShown (count list) (groupOf list) frame′ →
+    EachTo (count list) (λ i. frame i ≡ frame′ i)
 one-filling s list p q frame frame′ age age′ a a′ f f′ =
-    all-same s list frame frame′ (record { rule = a .rule; table = a .table; filling = f })
-    (record { rule = a′ .rule; table = a′ .table; filling = f′ })
+    all-same (s .slots) (count list) (groupOf list) frame frame′ (record { drawn = a .table .drawn; filling = f })
+    (record { drawn = a′ .table .drawn; filling = f′ })
+    (repetitions-same s list (λ i. frame i .repetition) (a .rule) (λ i. frame′ i .repetition) (a′ .rule))
 
 -- ---- one row of words
 
 -- what the words of an accepted plan show
-pub record PlanShown (s : Settings) (list : List ℕ) (place : ℕ) (word : ℕ → ℕ) : Type 0 where
+pub record ShownPlan (s : Settings) (list : List ℕ) (place : ℕ) (word : ℕ → ℕ) : Type 0 where
   pub accepted : AcceptedPlan s list place (frameOf word) (ageOf word)
-  pub filling : FillingShown list (frameOf word)
-  pub ages : (i : ℕ) → Between 1 (count list) i → AgeShown s (signalAt list i) (frameOf word i) (ageOf word i)
+  pub filling : FillingShown (count list) (groupOf list) (frameOf word)
+  pub ages : EachTo (count list) (λ i. AgeShown s (signalAt list i) (frameOf word i) (ageOf word i))
 
 module _
     {s : Settings}
     {list : List ℕ}
     {p p′ : ℕ}
     {word word′ : ℕ → ℕ}
-    (a : PlanShown s list p word)
-    (a′ : PlanShown s list p′ word′)
+    (a : ShownPlan s list p word)
+    (a′ : ShownPlan s list p′ word′)
   where
     -- each uses the fewest slots of any
     pub one-place : p ≡ p′
@@ -209,28 +206,25 @@ module _
         let least′ = there .fewest (frameOf word) (here .table) in
         omega (arith, here .used, there .used, least, least′)
 
-    pub one-frame : (i : ℕ) → Between 1 (count list) i → frameOf word i ≡ frameOf word′ i
+    pub one-frame : EachTo (count list) (λ i. frameOf word i ≡ frameOf word′ i)
     one-frame = one-filling s list p p′ _ _ _ _ (a .accepted) (a′ .accepted) (a .filling) (a′ .filling)
 
-    one-age : (i : ℕ) → Between 1 (count list) i → ageOf word i ≡ ageOf word′ i
-    one-age i b =
+    one-result : EachTo (count list) (λ i. resultAt word i ≡ resultAt word′ i)
+    one-result i b =
         let f = frameOf word′ i in
         let x = signalAt list i in
+        let age =
         age-unique (firstStart s f) (spanOf s f) (s .packing) (s .slot) (x .offset) (x .period) _ _
-        (subst (λ (g : Frame). Age s x g (ageOf word i)) (one-frame i b) (a .ages i b .is-age)) (a′ .ages i b .is-age)
+        (subst (λ (g : Frame). Age s x g (ageOf word i)) (one-frame i b) (a .ages i b .is-age)) (a′ .ages i b .is-age) in
+        λ k. record { frame = one-frame i b k; age = age k }
 
-    -- word r of the four of signal i
-    of-four : (i r : ℕ) → Between 1 (count list) i → r < 4 → word (4 * (i - 1) + r) ≡ word′ (4 * (i - 1) + r)
-    of-four i zero b l = rw add-zero (ap (λ (f : Frame). f .slot) (one-frame i b))
-    of-four i (suc zero) b l = ap (λ (f : Frame). f .base) (one-frame i b)
-    of-four i (suc (suc zero)) b l = ap (λ (f : Frame). f .repetition) (one-frame i b)
-    of-four i (suc (suc (suc zero))) b l = one-age i b
-    of-four i (suc (suc (suc (suc r)))) b l = absurd (omega arith)
-
-    pub one-words : (j : ℕ) → j < 4 * count list → word j ≡ word′ j
+    pub one-words : (j : ℕ) → j < resultSize * count list → word j ≡ word′ j
     one-words j l =
-        let at : 4 * (1 + j / 4 - 1) + j % 4 ≡ j = omega arith in
-        subst (λ (n : ℕ). word n ≡ word′ n) at (of-four (1 + j / 4) (j % 4) (omega arith) (omega arith))
+        let i = 1 + j / resultSize in
+        let at : resultStart i + j % resultSize ≡ j = omega arith in
+        subst (λ (n : ℕ). word n ≡ word′ n) at
+        (same-words (λ d. word (resultStart i + d)) (λ d. word′ (resultStart i + d)) (one-result i (omega arith))
+        (j % resultSize) (omega arith))
 
 -- ---- one table of cells
 
@@ -239,34 +233,21 @@ module _
     (m : ℕ)
     {frame frame′ : ℕ → Frame}
     {cells cells′ : List ℕ}
-    (same : (i : ℕ) → Between 1 m i → frame i ≡ frame′ i)
+    (same : EachTo m (λ i. frame i ≡ frame′ i))
     (t : TableShown s m frame cells)
     (t′ : TableShown s m frame′ cells′)
   where
-    module _ (k c : ℕ) (b : Between 1 (s .slots) k) (l : c < 64) where
-      abbrev At : Frame → Type 0
-      At f = Sends f k c
-
-      abbrev cell : ℕ
-      cell = cellOf cells k c
-
-      -- a number past the signals stands nowhere: the cell would be empty
-      cell-most : cell ≤ m
-      cell-most =
-          dite (decLe cell m) (λ h. h)
-          (λ h.
-          let none = t .empty k c b l .1 (λ i at sends. h (omega (arith, t .shown k c i b l at .1 sends, at))) in
-          omega arith)
-
-      one-cell : cell ≡ cellOf cells′ k c
-      one-cell =
-          dite (ℕ-discrete cell 0)
-          (λ z.
-          let none = t .empty k c b l .0 z in
-          z ∙ sym (t′ .empty k c b l .1 (λ i at sends. none i at (subst At (sym (same i at)) sends))))
-          (λ n.
-          let at : Between 1 m cell = (omega (arith, n), cell-most) in
-          sym (t′ .shown k c cell b l at .1 (subst At (same cell at) (t .shown k c cell b l at .0 refl))))
+    -- if a cell were not the same in both, no frame would have it, and it would be 0 in both
+    one-cell : (k c : ℕ) → Between 1 (s .slots) k → c < 64 → cellOf cells k c ≡ cellOf cells′ k c
+    one-cell k c b l =
+        dite (ℕ-discrete (cellOf cells k c) (cellOf cells′ k c)) (λ e. e)
+        (λ n.
+        let none : (i : ℕ) → Between 1 m i → Sends (frame i) k c → ⊥ =
+        λ i at h. n (t .shown k c i b l at .1 h ∙ sym (t′ .shown k c i b l at .1 (subst At (same i at) h))) in
+        t .empty k c b l .1 none ∙ sym (t′ .empty k c b l .1 (λ i at h. none i at (subst At (sym (same i at)) h))))
+      where
+        At : Frame → Type 0
+        At f = Sends f k c
 
     pub one-table : (j : ℕ) → j < 64 * s .slots → getD cells j 0 ≡ getD cells′ j 0
     one-table j l =

@@ -3,23 +3,27 @@
 use mathlib.Core.Path.{_≡_}
 use Prim.Native.Nat.{ℕ, _*_, _<_}
 use lib.ListN.{getD}
-use Rattle.planner.specs.Lists.{count}
+use Rattle.terms.specs.Lists.{count}
 use Rattle.book.specs.Words.{wordAt}
 use Rattle.book.specs.Reading.{settingsIn, listIn}
-use Rattle.promises.specs.Calls.{Request, PlanRoom, Return, WhereDone, Plans, PlansList, PlansBook}
+use Rattle.terms.specs.Requests.{Request, PlanRoom, request}
+use Rattle.terms.specs.Results.{resultSize}
+use Rattle.age.proofs.AgeLaws.{paper-is-age}
+use Rattle.promises.specs.Calls.{Return, WhereDone, Plans, PlansList, PlansBook}
 use Rattle.promises.specs.Promised.{Promised}
 use Rattle.promises.proofs.Demand1.{plan-1, plan-list-1, plan-book-1, read-1, read-c-1, write-1, write-c-1}
 use Rattle.promises.proofs.Demand2.{plan-2, plan-list-2, plan-book-2, books-2, books-c-2}
-use Rattle.promises.proofs.Demand3.{plan-3, plan-list-3, plan-book-3, plan-fills, plan-list-fills, plan-book-fills}
+use Rattle.promises.proofs.Demand3.{plan-3, plan-list-3, plan-book-3, plan-fills-3, plan-list-fills, plan-book-fills}
 use Rattle.promises.proofs.Determined.{planning-one, editor-as-words}
 
 pub promised : Promised
 promised =
     record {
-      plan = record { one = plan-1; two = plan-2; three = plan-3; filling = plan-fills };
+      plan = record { one = plan-1; two = plan-2; three = plan-3; filling = plan-fills-3 };
       plan-list = record { one = plan-list-1; two = plan-list-2; three = plan-list-3; filling = plan-list-fills };
       plan-book = record { one = plan-book-1; two = plan-book-2; three = plan-book-3; filling = plan-book-fills };
       books = record { reading = read-1; writing = write-1; books = books-2 };
+      formula = λ first span packing slot offset period g d f t. paper-is-age first span packing slot offset period f t g d;
       books-from-c = record { reading = read-c-1; writing = write-c-1; books = books-c-2 };
     }
 
@@ -28,7 +32,8 @@ pub list-as-plan : (x : Request) (l : PlanRoom) (y y′ : Return PlanRoom) → P
 list-as-plan = planning-one Plans PlansList (promised .plan) (promised .plan-list)
 
 -- and the editor's results are planning's, of the settings and the list in the book
-pub book-as-plan : WhereDone PlansBook (λ book l y.
-    (room : PlanRoom) (w : Return PlanRoom) → Plans (record { settings = settingsIn book; list = listIn book }) room w → w .number ≡ 0
-    → (y .place ≡ w .place) × ((p : ℕ) → p < 4 * count (listIn book) → wordAt (y .lent) p ≡ getD (w .lent .results) p 0))
+pub book-as-plan : WhereDone PlansBook
+    (λ book l y.
+    (room : PlanRoom) (w : Return PlanRoom) → Plans (request (settingsIn book) (listIn book)) room w → w .number ≡ 0
+    → (y .place ≡ w .place) × ((p : ℕ) → p < resultSize * count (listIn book) → wordAt (y .lent) p ≡ getD (w .lent .results) p 0))
 book-as-plan book l y g z = editor-as-words PlansBook Plans (promised .plan-book) (promised .plan) book l y g z

@@ -1,42 +1,42 @@
 -- Programs that look right and are not: no routine that keeps the named demand gives, of the named input, what each of them gives.
 -- Assumes nothing.
 use mathlib.Core.Path.{_≡_, refl, _∙_, sym, ap, subst}
-use mathlib.Core.List.{List, [], _∷_, _++_}
-use mathlib.Core.Logic.{_⊎_, inl, inr, ⊎-elim}
+use mathlib.Core.List.{List, [], _∷_}
+use mathlib.Core.Logic.{_⊎_, ⊎-elim}
 use Prim.Native.Nat.{ℕ, _+_, _*_, _-_, _≤_, _<_}
 use native.Mathlib.Omega.{arith}
 use lib.Dec.{lit≤}
 use lib.ListN.{length, getD, drop, getD-replicate}
-use Rattle.laws.specs.DivisorLaws.{euclid}
+use Rattle.laws.specs.Rows.{Hold}
+use Rattle.laws.specs.Sums.{sum, same}
+use Rattle.laws.specs.Lowest.{Between}
+use Rattle.laws.proofs.RowLaws.{hold-join, holds-zero}
+use Rattle.laws.proofs.DivisorLaws.{euclid}
 use Rattle.terms.specs.declared.Settings.{Settings}
-use Rattle.terms.specs.Ranges.{Between}
-use Rattle.terms.specs.RepetitionLaws.{repetition-most}
+use Rattle.terms.specs.Lists.{signalSize, count, signalAt, groupOf}
+use Rattle.terms.specs.Answers.{roomRow}
+use Rattle.terms.specs.Requests.{Request, PlanRoom}
+use Rattle.terms.proofs.RepetitionLaws.{repetition-most}
 use Rattle.age.specs.Age.{Age, firstStart, spanOf}
-use Rattle.age.specs.AgeLaws.{age-unique}
-use Rattle.age.specs.AgeTests.{age-test}
-use Rattle.cycles.specs.Frames.{Names}
-use Rattle.filling.specs.Sums.{sum, same}
-use Rattle.planner.specs.Lists.{count, signalAt}
+use Rattle.age.proofs.AgeLaws.{age-unique}
+use Rattle.age.proofs.AgeTests.{age-test}
+use Rattle.cycles.specs.Frames.{Names, Sends}
+use Rattle.filling.specs.Shown.{cellOf}
+use Rattle.filling.specs.Tables.{slotsUsed, FillingShown}
 use Rattle.book.specs.Words.{AllBelow, wordAt}
-use Rattle.book.specs.Blocks.{bookWord, bookOf}
-use Rattle.book.specs.Reading.{signalsOf, settingsIn, listIn}
-use Rattle.promises.specs.Calls.{Request, PlanRoom, Return, Routine}
-use Rattle.promises.specs.Rows.{Row, FirstRow, roomRow, bookRows, writingRows}
-use Rattle.promises.specs.Shows.{frameOf, ageOf, cellOf, Sends, overWords, fromBook}
+use Rattle.book.specs.Blocks.{bookWord, bookOf, writingRows}
+use Rattle.book.specs.Reading.{signalsOf, settingsIn, listIn, bookRows, readingRows}
+use Rattle.book.proofs.WordLaws.{word-in-front}
+use Rattle.promises.specs.Calls.{Return, Routine}
+use Rattle.promises.specs.Shows.{frameOf, ageOf, overWords, fromBook}
 use Rattle.promises.specs.Demand1.{Demand1Reading, Demand1Writing}
 use Rattle.promises.specs.Demand2.{Demand2Planning, Demand2Editor, Demand2Books}
-use Rattle.promises.specs.Tables.{slotsUsed}
 use Rattle.promises.specs.Demand3.{AcceptedPlan, Demand3}
-use Rattle.promises.specs.Filling.{FillingShown, ShowsFilling}
-use Rattle.promises.specs.Inputs.{settings, asked, fresh, half, case1, twice, single, pair, blank, sixty-four, slot-two, often, invented, spread, colliding, case1-book, pair-book, exchanged}
-use Rattle.promises.proofs.Bytes.{word-in-front}
+use Rattle.promises.specs.Filling.{ShowsFilling}
+use Rattle.promises.proofs.Inputs.{settings, asked, fresh, half, case1, twice, single, pair, blank, words}
+use Rattle.promises.proofs.Inputs.{sixty-four, slot-two, often, invented, spread, colliding, case1-book, pair-book, exchanged}
+use Rattle.promises.proofs.Named.{half-gets, every, slot1, case1-table, case1-count, case1-ready, case1-holds, pair-holds}
 use Rattle.promises.proofs.FillingExamples.{lowest-no}
-use Rattle.promises.proofs.Named.{half-gets, slot1, case1-table, case1-ready, case1-holds, pair-holds}
-use Rattle.promises.proofs.RowLaws.{past, sound-rows}
-
--- the words of results that are known
-abbrev wordsOf : List ℕ → ℕ → ℕ
-wordsOf results p = getD results p 0
 
 module _ (Gives : Routine Request PlanRoom) where
   -- ---- what breaks demand 2
@@ -49,8 +49,8 @@ module _ (Gives : Routine Request PlanRoom) where
         let f = frameOf (overWords .word (y .lent)) i in
         let h = keeps .ages x l y g z i b .frame in
         let c : f .base < 64 = omega (arith, h .base, repetition-most (f .repetition) (h .repetition)) in
-        let sends : Sends f (f .slot)
-        (f .base) = (refl, record { repetition = h .repetition; base = h .base; again = (0, omega arith) }) in
+        let sends : Sends f (f .slot) (f .base) =
+        (refl, record { repetition = h .repetition; base = h .base; again = (0, omega arith) }) in
         (f .slot, f .base, h .slot, c, keeps .table x l y g z .shown (f .slot) (f .base) i (h .slot) c b .1 sends)
 
     -- one plan for all: case 1 and the empty list cannot have the same table
@@ -93,32 +93,31 @@ module _ (Gives : Routine Request PlanRoom) where
     module _ (z : y .number ≡ 0) where
       -- what an accepted plan is, of results that are known
       accepted : (list results : List ℕ) → Gives (asked list) l y → y .lent .results ≡ results
-          → AcceptedPlan settings list (y .place) (frameOf (wordsOf results)) (ageOf (wordsOf results))
+          → AcceptedPlan settings list (y .place) (frameOf (words results)) (ageOf (words results))
       accepted list results g e =
-          subst (λ (r : List ℕ). AcceptedPlan settings list (y .place) (frameOf (wordsOf r)) (ageOf (wordsOf r))) e
+          subst (λ (r : List ℕ). AcceptedPlan settings list (y .place) (frameOf (words r)) (ageOf (words r))) e
           (keeps .accepted (asked list) l y g z)
 
       -- invents the slots used: at case 1 it gives all that there are, where one would do
       pub invents-slots : Gives (asked case1) l y → y .place ≡ 93 → ⊥
       unfolding sum same
       invents-slots g e =
-          let fewer : y .place ≤ 1 = keeps .accepted (asked case1) l y g z .fewest (λ i. slot1) case1-table in omega
-          (arith, e)
+          let fewer : y .place ≤ 1 = keeps .accepted (asked case1) l y g z .fewest (λ i. slot1) case1-table in
+          omega (arith, e)
 
       -- .. or beside any true results another number than theirs
       pub invents-any-slots : (x : Request) (w : Return PlanRoom) → Gives x l y → Gives x l w → w .number ≡ 0
           → w .lent .results ≡ y .lent .results → w .place ≡ y .place
       invents-any-slots x w g h n e =
           sym (keeps .accepted x l w h n .used)
-          ∙ ap (λ (r : List ℕ). slotsUsed (x .settings .slots) (count (x .list)) (frameOf (wordsOf r))) e
+          ∙ ap (λ (r : List ℕ). slotsUsed (x .settings .slots) (count (x .list)) (frameOf (words r))) e
           ∙ keeps .accepted x l y g z .used
 
       -- places the first signal truly and invents the others: the two frames collide
       pub invents-others : Gives (asked twice) l y → y .lent .results ≡ invented → ⊥
       invents-others g e =
           let t = accepted twice invented g e .table in
-          let every : Names 1 0 0 = record { repetition = (0, lit≤ tt, refl); base = lit≤ tt; again = (0, refl) } in
-          omega (arith, t .apart 1 2 1 0 (lit≤ tt, lit≤ tt) (lit≤ tt, lit≤ tt) (lit≤ tt) (refl, every) (refl, every))
+          omega (arith, t .drawn .apart 1 2 1 0 (lit≤ tt, lit≤ tt) (lit≤ tt, lit≤ tt) (lit≤ tt) (refl, every 0) (refl, every 0))
 
       -- shows repetition 64 with its true age: over the bound
       pub over-the-bound : Gives (asked case1) l y → y .lent .results ≡ sixty-four → ⊥
@@ -135,29 +134,30 @@ module _ (Gives : Routine Request PlanRoom) where
   pub second-slot : ShowsFilling overWords Gives → (l : PlanRoom) (y : Return PlanRoom) → y .number ≡ 0
       → Gives (asked case1) l y → y .lent .results ≡ slot-two → ⊥
   second-slot keeps l y z g e =
-      lowest-no (subst (λ (r : List ℕ). FillingShown case1 (frameOf (wordsOf r))) e (keeps (asked case1) l y g z))
+      lowest-no (subst (λ (r : List ℕ). FillingShown 1 (groupOf case1) (frameOf (words r))) e (keeps (asked case1) l y g z))
 
 -- what they show is true as far as it goes: the ages are the definition's
-pub sixty-four-true : Age settings fresh (frameOf (wordsOf sixty-four) 1) (ageOf (wordsOf sixty-four) 1)
+pub sixty-four-true : Age settings fresh (frameOf (words sixty-four) 1) (ageOf (words sixty-four) 1)
 unfolding euclid
-sixty-four-true = age-test settings fresh (frameOf (wordsOf sixty-four) 1) 157516 .1 tt .1
+sixty-four-true = age-test settings fresh (frameOf (words sixty-four) 1) 157516 .1 tt .1
 
-pub often-true : Age settings half (frameOf (wordsOf often) 1) (ageOf (wordsOf often) 1)
+pub often-true : Age settings half (frameOf (words often) 1) (ageOf (words often) 1)
 unfolding euclid
-often-true = age-test settings half (frameOf (wordsOf often) 1) 16 .1 tt .1
+often-true = age-test settings half (frameOf (words often) 1) 16 .1 tt .1
 
 -- ---- from the editor: of the book of `pair`
 
 module _ (Gives : Routine (List ℕ) (List ℕ)) (keeps : Demand3 fromBook Gives) (l : List ℕ) (y : Return (List ℕ))
     (z : y .number ≡ 0)
     (g : Gives pair-book l y) where
-  shown-plan : (bytes : List ℕ) → y .lent ≡ bytes
-      → AcceptedPlan settings pair (y .place) (frameOf (wordAt bytes)) (ageOf (wordAt bytes))
+  abbrev Plan : Settings → (list bytes : List ℕ) → Type 0
+  Plan s list bytes = AcceptedPlan s list (y .place) (frameOf (wordAt bytes)) (ageOf (wordAt bytes))
+
+  shown-plan : (bytes : List ℕ) → y .lent ≡ bytes → Plan settings pair bytes
   shown-plan bytes e =
-      subst (λ (b : List ℕ). AcceptedPlan settings pair (y .place) (frameOf (wordAt b)) (ageOf (wordAt b))) e
-      (subst (λ (list : List ℕ). AcceptedPlan settings list (y .place) (frameOf (wordAt (y .lent))) (ageOf (wordAt (y .lent)))) (pair-holds .list-in)
-      (subst (λ (s : Settings). AcceptedPlan s (listIn pair-book) (y .place) (frameOf (wordAt (y .lent))) (ageOf (wordAt (y .lent)))) (pair-holds .settings-in)
-      (keeps .accepted pair-book l y g z)))
+      subst (λ (b : List ℕ). Plan settings pair b) e
+      (subst (λ (list : List ℕ). Plan settings list (y .lent)) (pair-holds .list-in)
+      (subst (λ (s : Settings). Plan s (listIn pair-book) (y .lent)) (pair-holds .settings-in) (keeps .accepted pair-book l y g z)))
 
   -- shows two slots and claims one
   pub claims-one-slot : y .lent ≡ spread → y .place ≡ 1 → ⊥
@@ -168,9 +168,9 @@ module _ (Gives : Routine (List ℕ) (List ℕ)) (keeps : Demand3 fromBook Gives
   pub shows-collision : y .lent ≡ colliding → ⊥
   unfolding wordAt
   shows-collision e =
-      let first : Names 1 0 1 = record { repetition = (0, lit≤ tt, refl); base = lit≤ tt; again = (1, refl) } in
       let second : Names 2 1 1 = record { repetition = (1, lit≤ tt, refl); base = lit≤ tt; again = (0, refl) } in
-      omega (arith, shown-plan colliding e .table .apart 1 2 1 1 (lit≤ tt, lit≤ tt) (lit≤ tt, lit≤ tt) (lit≤ tt) (refl, first) (refl, second))
+      let apart = shown-plan colliding e .table .drawn .apart 1 2 1 1 (lit≤ tt, lit≤ tt) (lit≤ tt, lit≤ tt) (lit≤ tt) in
+      omega (arith, apart (refl, every 1) (refl, second))
 
 -- shows each word in its first byte: an age of 2,516 is none
 pub not-a-byte : (Gives : Routine (List ℕ) (List ℕ)) → Demand2Editor Gives → (book l : List ℕ) (y : Return (List ℕ))
@@ -185,30 +185,18 @@ pub refuses-all-books : (Gives : Settings → Routine (List ℕ) (List ℕ)) →
     → (s : Settings) (l : List ℕ) (y : Return (List ℕ))
     → 5 ≤ length l → Gives s case1-book l y → y .number ≡ 0
 refuses-all-books Gives keeps s l y enough g =
-    done (past last so (y .number) (y .place) (bookRows case1-book) (sound-rows case1-book (case1-holds .whole)) row)
-  where
-    last : List Row
-    last = roomRow (5 * signalsOf case1-book) (length l) ∷ []
-
-    so : ℕ → Type 0
-    so p = p ≡ signalsOf case1-book
-
-    row : FirstRow (bookRows case1-book ++ last) so (y .number) (y .place)
-    row = keeps .numbered case1-book l y (s, g)
-
-    done : FirstRow last so (y .number) (y .place) → y .number ≡ 0
-    done (inl (f, e, p)) = absurd (f (omega (arith, case1-holds .signals)))
-    done (inr (r, (e, p))) = e
+    let rows : Hold (readingRows case1-book (length l)) =
+    hold-join (bookRows case1-book) (roomRow (signalSize * signalsOf case1-book) (length l) ∷ []) (case1-holds .sound)
+    (omega (arith, case1-holds .signals), tt) in
+    holds-zero (λ p. p ≡ signalsOf case1-book) (y .number) (y .place) (readingRows case1-book (length l)) rows
+    (keeps .numbered case1-book l y (s, g)) .0
 
 -- a writer that refuses all lists, as with 4: every row of case 1 holds
 pub refuses-all-values : (Gives : Routine Request (List ℕ)) → Demand1Writing Gives → (l : List ℕ) (y : Return (List ℕ))
     → 1024 ≤ length l → Gives (asked case1) l y → y .number ≡ 0
-refuses-all-values Gives keeps l y enough g = done (keeps .numbered (asked case1) l y g)
-  where
-    done : FirstRow (writingRows (asked case1) l) (λ p. p ≡ 2) (y .number) (y .place) → y .number ≡ 0
-    done (inl (f, e, p)) = absurd (f (record { whole = refl; few = lit≤ tt }))
-    done (inr (k, inl (f, e, p))) = absurd (f enough)
-    done (inr (k, inr (r, (e, p)))) = e
+refuses-all-values Gives keeps l y enough g =
+    holds-zero (λ p. p ≡ 2) (y .number) (y .place) (writingRows case1 (length l)) (case1-count, (enough, tt))
+    (keeps .numbered (asked case1) l y g) .0
 
 -- a reader whose refusals from C come with settings: number 1 and a cycle of 2,500
 pub refuses-with-settings : (Reads : Settings → Routine (List ℕ) (List ℕ)) (Writes : Routine Request (List ℕ))
@@ -225,7 +213,8 @@ module _ (Reads : Settings → Routine (List ℕ) (List ℕ)) (Writes : Routine 
     (z : y .number ≡ 0) where
   pub reads-exchanged : Reads (exchanged settings) case1-book l y → ⊥
   reads-exchanged r =
-      omega (arith, ap (λ (s : Settings). s .cycle) (keeps .settings-read (exchanged settings) case1-book l y r z ∙ case1-holds .settings-in))
+      let read = keeps .settings-read (exchanged settings) case1-book l y r z in
+      omega (arith, ap (λ (s : Settings). s .cycle) (read ∙ case1-holds .settings-in))
 
   pub writes-exchanged : Writes (asked case1) l y → wordAt (y .lent) 2 ≡ 16 → ⊥
   unfolding bookOf settingsIn

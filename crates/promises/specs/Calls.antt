@@ -6,23 +6,12 @@ use Prim.Native.Nat.{ℕ, _/_, _%_}
 use Rattle.terms.specs.declared.Settings.{Settings}
 use Rattle.terms.specs.declared.Answer.{Answer}
 use Rattle.terms.specs.Answers.{numberOf, placeOf}
+use Rattle.terms.specs.Requests.{Request, PlanRoom}
+use Rattle.terms.specs.Ranges.{settingsFrom}
 use Rattle.planner.specs.Planned.{Planned}
 use Rattle.book.specs.declared.Reading.{Reading}
-use Rattle.book.specs.Reading.{settingsOf}
 use Rattle.book.specs.Outcomes.{ReadOutcome, WriteOutcome}
-use Rattle.editor.specs.Answered.{ReadAnswered, WriteAnswered, PlanAnswered}
-use Rattle.editor.specs.BookPlan.{BookAnswered}
-use Rattle.editor.specs.Words.{settingAt}
-
--- what planning and writing are asked
-pub record Request : Type 0 where
-  pub settings : Settings
-  pub list : List ℕ
-
--- what is lent to planning
-pub record PlanRoom : Type 0 where
-  pub cells : List ℕ
-  pub results : List ℕ
+use Rattle.editor.specs.Answered.{ReadAnswered, SettingAnswered, WriteAnswered, PlanAnswered, BookAnswered}
 
 -- what comes back: the answer's number and place, and what was lent, at exit
 pub record Return (Room : Type 0) : Type 0 where
@@ -53,16 +42,10 @@ Halves r y = (y .number ≡ r / 4294967296) × (y .place ≡ r % 4294967296)
 
 -- `planner::plan`, and `noctelvia_plan_list`
 abbrev pub Plans : Routine Request PlanRoom
-Plans x l y =
-    (a : Answer)
-    × Planned (x .settings) (x .list) (l .cells) (l .results) a (y .lent .cells) (y .lent .results)
-    × Tells a y
+Plans x l y = (a : Answer) × Planned x l a (y .lent) × Tells a y
 
 abbrev pub PlansList : Routine Request PlanRoom
-PlansList x l y =
-    (r : ℕ)
-    × PlanAnswered (x .settings) (x .list) (l .cells) (l .results) r (y .lent .cells) (y .lent .results)
-    × Halves r y
+PlansList x l y = (r : ℕ) × PlanAnswered x l r (y .lent) × Halves r y
 
 -- `noctelvia_plan`: of a book, into lent bytes
 abbrev pub PlansBook : Routine (List ℕ) (List ℕ)
@@ -72,12 +55,12 @@ PlansBook book l y = (r : ℕ) × BookAnswered book l r (y .lent) × Halves r y
 abbrev pub Reads : Settings → Routine (List ℕ) (List ℕ)
 Reads s book l y = (r : Reading) × ReadOutcome book l r (y .lent) × (s ≡ r .settings) × Tells (r .answer) y
 
-abbrev pub wordByWord : (ℕ → ℕ) → Settings
-wordByWord word = record { cycle = word 2; slot = word 3; slots = word 4; packing = word 5; payload = word 6 }
-
 abbrev pub ReadsFromC : Settings → Routine (List ℕ) (List ℕ)
 ReadsFromC s book l y =
-    (r : ℕ) × ReadAnswered book l r (y .lent) × (s ≡ wordByWord (settingAt (settingsOf book))) × Halves r y
+    (r : ℕ)
+    × ReadAnswered book l r (y .lent)
+    × ((word : ℕ → ℕ) × ((w : ℕ) → SettingAnswered book w (word w)) × (s ≡ settingsFrom word))
+    × Halves r y
 
 -- `book::write`, and `noctelvia_write`
 abbrev pub Writes : Routine Request (List ℕ)

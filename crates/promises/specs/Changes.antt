@@ -4,8 +4,8 @@ use mathlib.Core.List.{List}
 use Prim.Native.Nat.{ℕ, _%_, _≤_, _<_}
 use lib.ListN.{length}
 use Rattle.terms.specs.declared.Signal.{Signal}
-use Rattle.terms.specs.Ranges.{Between}
-use Rattle.planner.specs.Lists.{count, signalAt}
+use Rattle.laws.specs.Lowest.{Between}
+use Rattle.terms.specs.Lists.{signalSize, count, signalAt}
 
 -- y is x with its bound raised, at most to the period
 pub record RaisedSignal (x y : Signal) : Type 0 where
@@ -19,7 +19,7 @@ pub record RaisedSignal (x y : Signal) : Type 0 where
 -- list′ is list with some signals struck and the bounds of the others as they were or raised: signal j of list′ was
 -- signal `was j` of list, and the order stays
 pub record Eased (list list′ : List ℕ) : Type 0 where
-  pub whole : length list′ % 5 ≡ 0
+  pub whole : length list′ % signalSize ≡ 0
   pub was : ℕ → ℕ
   pub rising : (i j : ℕ) → 1 ≤ i → i < j → j ≤ count list′ → was i < was j
   pub within : (j : ℕ) → Between 1 (count list′) j → Between 1 (count list) (was j)

@@ -3,12 +3,16 @@
 use mathlib.Core.Path.{_≡_}
 use mathlib.Core.List.{List}
 use Prim.Native.Nat.{ℕ}
+use lib.ListN.{length}
+use Rattle.laws.specs.Rows.{Row, FirstRow}
 use Rattle.terms.specs.declared.Settings.{Settings}
-use Rattle.planner.specs.Lists.{count}
-use Rattle.book.specs.Blocks.{blocksFor}
-use Rattle.book.specs.Reading.{signalsOf, settingsIn, listIn}
-use Rattle.promises.specs.Calls.{Request, PlanRoom, Return, Routine, Always}
-use Rattle.promises.specs.Rows.{Row, FirstRow, Needed, planningRows, readingRows, writingRows, editorRows}
+use Rattle.terms.specs.Requests.{Request, PlanRoom}
+use Rattle.terms.specs.Lists.{count}
+use Rattle.book.specs.Blocks.{blocksFor, writingRows}
+use Rattle.book.specs.Reading.{signalsOf, settingsIn, listIn, readingRows}
+use Rattle.planner.specs.Rows.{Needed, planningRows}
+use Rattle.editor.specs.Rows.{editorRows}
+use Rattle.promises.specs.Calls.{Return, Routine, Always}
 
 pub record Demand1
     {Asked Room : Type 0}
@@ -30,10 +34,11 @@ abbrev pub Demand1Planning : Routine Request PlanRoom → Type 1
 Demand1Planning Gives = Demand1 planningRows (λ x. Needed (x .settings) (x .list)) Gives
 
 abbrev pub Demand1Editor : Routine (List ℕ) (List ℕ) → Type 1
-Demand1Editor Gives = Demand1 editorRows (λ book. Needed (settingsIn book) (listIn book)) Gives
+Demand1Editor Gives = Demand1 (λ book l. editorRows book (length l)) (λ book. Needed (settingsIn book) (listIn book)) Gives
 
 abbrev pub Demand1Writing : Routine Request (List ℕ) → Type 1
-Demand1Writing Gives = Demand1 writingRows (λ x p. p ≡ blocksFor (count (x .list))) Gives
+Demand1Writing Gives = Demand1 (λ x l. writingRows (x .list) (length l)) (λ x p. p ≡ blocksFor (count (x .list))) Gives
 
 abbrev pub Demand1Reading : (Settings → Routine (List ℕ) (List ℕ)) → Type 1
-Demand1Reading Gives = Demand1 readingRows (λ book p. p ≡ signalsOf book) (λ book l y. (s : Settings) × Gives s book l y)
+Demand1Reading Gives =
+    Demand1 (λ book l. readingRows book (length l)) (λ book p. p ≡ signalsOf book) (λ book l y. (s : Settings) × Gives s book l y)

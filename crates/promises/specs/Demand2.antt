@@ -9,15 +9,21 @@ use lib.ListN.{length, getD, take, drop}
 use Rattle.terms.specs.declared.Settings.{Settings}
 use Rattle.terms.specs.declared.Signal.{Signal}
 use Rattle.terms.specs.declared.Frame.{Frame}
-use Rattle.terms.specs.Ranges.{Between, FrameInRange}
+use Rattle.laws.specs.Lowest.{Between}
+use Rattle.terms.specs.Ranges.{FrameInRange}
 use Rattle.age.specs.Age.{Start, Release, firstStart, spanOf, Age}
-use Rattle.planner.specs.Lists.{count, signalAt}
+use Rattle.terms.specs.Requests.{Request, PlanRoom}
+use Rattle.terms.specs.Lists.{signalSize, count, signalAt}
+use Rattle.terms.specs.Results.{resultSize}
+use Rattle.cycles.specs.Frames.{Sends}
+use Rattle.filling.specs.Shown.{cellOf}
+use Rattle.editor.specs.Rows.{resultBytes}
 use Rattle.book.specs.Words.{AllBelow}
 use Rattle.book.specs.Blocks.{AreWords, blocksFor, bookOf}
 use Rattle.book.specs.Reading.{signalsOf, settingsIn, fiveZeros, listIn}
-use Rattle.promises.specs.Calls.{Request, PlanRoom, Return, Routine, Always, WhereDone}
+use Rattle.promises.specs.Calls.{Return, Routine, Always, WhereDone}
 use Rattle.promises.specs.Tables.{slotsShown}
-use Rattle.promises.specs.Shows.{frameOf, ageOf, cellOf, Sends, Planning, overWords, fromBook}
+use Rattle.promises.specs.Shows.{frameOf, ageOf, Planning, overWords, fromBook}
 
 -- "Releases fall exactly at offset plus whole periods, for ever." `Release` says so; hence the first is at the offset, each is
 -- followed by one a period later with none between, and there is one after any time
@@ -36,7 +42,7 @@ StartsAt s At t = (n k : ℕ) × At k (n % 64) × (t ≡ n * s .cycle + (k - 1) 
 -- time later." The frame is one of the segment, and its starts are the cycles that its base and repetition name
 pub record AgeShown (s : Settings) (x : Signal) (f : Frame) (age : ℕ) : Type 0 where
   pub releases : Releases (x .offset) (x .period)
-  pub frame : FrameInRange s f
+  pub frame : FrameInRange (s .slots) f
   pub starts : (t : ℕ) → Start (firstStart s f) (spanOf s f) t ↔ StartsAt s (Sends f) t
   pub is-age : Age s x f age
 
@@ -72,13 +78,13 @@ pub record Demand2Planning (Gives : Routine Request PlanRoom) : Type 0 where
   pub table :
       WhereDone Gives (λ x l y. TableShown (x .settings) (count (x .list)) (frameOf (overWords .word (y .lent))) (y .lent .cells))
   pub cells-behind : WhereDone Gives (λ x l y. Behind (64 * x .settings .slots) (l .cells) (y .lent .cells))
-  pub results-behind : WhereDone Gives (λ x l y. Behind (4 * count (x .list)) (l .results) (y .lent .results))
+  pub results-behind : WhereDone Gives (λ x l y. Behind (resultSize * count (x .list)) (l .results) (y .lent .results))
   -- "the number is that of slots with a nonzero cell"
   pub slots : WhereDone Gives (λ x l y. slotsShown (x .settings .slots) (y .lent .cells) ≡ y .place)
 
 pub record Demand2Editor (Gives : Routine (List ℕ) (List ℕ)) : Type 0 where
   pub ages : WhereDone Gives (λ book l y. Ages fromBook book (y .lent))
-  pub behind : WhereDone Gives (λ book l y. Behind (16 * count (listIn book)) l (y .lent))
+  pub behind : WhereDone Gives (λ book l y. Behind (resultBytes (listIn book)) l (y .lent))
   -- what is lent as bytes comes back as bytes
   pub bytes : Always Gives (λ book l y. AllBelow 256 l → AllBelow 256 (y .lent))
 
@@ -108,7 +114,7 @@ pub record Demand2Books
     -- writing gives that book; what lies behind stays; "a refusal gives five zeros"
     pub settings-read : (s : Settings) → Always (Reads s) (λ book l y. With (y .number) → s ≡ settingsIn book)
     pub zeros-read : (s : Settings) → Always (Reads s) (λ book l y. (With (y .number) → ⊥) → s ≡ fiveZeros)
-    pub list-read : (s : Settings) → WhereDone (Reads s) (λ book l y. y .lent ≡ listIn book ++ drop (5 * signalsOf book) l)
+    pub list-read : (s : Settings) → WhereDone (Reads s) (λ book l y. y .lent ≡ listIn book ++ drop (signalSize * signalsOf book) l)
     pub written :
         WhereDone Writes (λ x l y. y .lent ≡ bookOf (x .settings) (x .list) ++ drop (512 * blocksFor (count (x .list))) l)
     -- "Writing and reading a book give back the same values": reading the blocks that were written, into room enough
@@ -128,4 +134,4 @@ pub record Demand2Books
         AllBelow 256 book →
         Always Writes
         (λ x room w.
-        x ≡ record { settings = s; list = take (5 * y .place) (y .lent) } → length book ≤ length room → WrittenBack book room w))
+        x ≡ record { settings = s; list = take (signalSize * y .place) (y .lent) } → length book ≤ length room → WrittenBack book room w))

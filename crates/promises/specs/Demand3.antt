@@ -7,11 +7,14 @@ use mathlib.Core.Logic.{_↔_}
 use Prim.Native.Nat.{ℕ, _≤_}
 use Rattle.terms.specs.declared.Settings.{Settings}
 use Rattle.terms.specs.declared.Frame.{Frame}
-use Rattle.terms.specs.Ranges.{Between, SettingsInRange, SignalInRange}
-use Rattle.planner.specs.Lists.{CountInRange, count, signalAt, EachSignal, Repetitions}
+use Rattle.laws.specs.Lowest.{Between}
+use Rattle.terms.specs.Ranges.{SettingsInRange, SignalInRange}
+use Rattle.terms.specs.Lists.{CountInRange, count, signalAt, EachSignal}
+use Rattle.rule.specs.Rule.{Repetitions}
 use Rattle.promises.specs.Calls.{Routine, Always, WhereDone}
 use Rattle.promises.specs.Shows.{frameOf, ageOf, Planning}
-use Rattle.promises.specs.Tables.{Table, slotsUsed}
+use Rattle.filling.specs.Tables.{slotsUsed}
+use Rattle.promises.specs.Tables.{Table}
 use Rattle.promises.specs.Changes.{Eased}
 
 -- what an accepted plan is, of the frames and ages that it shows, whether in words or in bytes

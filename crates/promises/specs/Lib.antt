@@ -1,5 +1,4 @@
 pub mod Calls
-pub mod Rows
 pub mod Demand1
 pub mod Shows
 pub mod Tables
@@ -8,4 +7,3 @@ pub mod Changes
 pub mod Demand3
 pub mod Filling
 pub mod Promised
-pub mod Inputs

@@ -4,7 +4,9 @@ use mathlib.Core.List.{List}
 use mathlib.Core.Logic.{_⊎_}
 use Prim.Native.Nat.{ℕ}
 use Rattle.terms.specs.declared.Settings.{Settings}
-use Rattle.promises.specs.Calls.{Request, PlanRoom, Routine, Plans, PlansList, PlansBook, Reads, ReadsFromC, Writes, WritesFromC}
+use Rattle.terms.specs.Requests.{Request, PlanRoom}
+use Rattle.age.specs.Formula.{PaperIsAge}
+use Rattle.promises.specs.Calls.{Routine, Plans, PlansList, PlansBook, Reads, ReadsFromC, Writes, WritesFromC}
 use Rattle.promises.specs.Shows.{overWords, fromBook}
 use Rattle.promises.specs.Demand1.{Demand1Planning, Demand1Editor, Demand1Reading, Demand1Writing}
 use Rattle.promises.specs.Demand2.{Demand2Planning, Demand2Editor, Demand2Books}
@@ -36,10 +38,11 @@ pub record BooksKeep
     pub writing : Demand1Writing GivesWritten
     pub books : Demand2Books With GivesRead GivesWritten
 
--- of all routines; from C settings are asked for by themselves, so a lent list that is too short, number 10, does not keep them back
+-- of all routines, and of the paper's formula; from C settings are asked for by themselves, so a lent list that is too short, number 10, does not keep them back
 pub record Promised : Type 1 where
   pub plan : PlanningKeeps Plans
   pub plan-list : PlanningKeeps PlansList
   pub plan-book : EditorKeeps PlansBook
   pub books : BooksKeep (λ n. n ≡ 0) Reads Writes
+  pub formula : PaperIsAge
   pub books-from-c : BooksKeep (λ n. (n ≡ 0) ⊎ (n ≡ 10)) ReadsFromC WritesFromC

@@ -1,4 +1,2 @@
 pub mod Rule
 pub mod Waits
-pub mod RuleLaws
-pub mod RuleTests

@@ -1,4 +1,4 @@
--- What the search of one repetition looks at: the longest wait at each slot of each base, over plain numbers.
+-- For private contracts alone: what the search of one repetition looks at, the longest wait at each slot of each base, over plain numbers.
 -- `n` is a first start and what the offset lacks of a multiple of g.
 use Prim.Native.Nat.{ℕ, _+_, _≤_}
 use Rattle.laws.specs.Along.{Along}

@@ -9,7 +9,7 @@ use native.Mathlib.Decide.{decLe}
 use borrow.Author.Tests.{eq-eqb}
 use native.Mathlib.Omega.{arith}
 use lib.Dec.{T, eqb, leb, leb→le, eqb→eq}
-use Rattle.laws.specs.Tests.{both, both-left, both-right, below, at}
+use Rattle.laws.proofs.Tests.{both, both-left, both-right, below, at}
 use Rattle.terms.specs.Ranges.{Repetition}
 
 -- the exponent of the largest power of two up to r, at most 6

@@ -1,4 +1,5 @@
 pub mod Ranges
+pub mod Lists
+pub mod Results
 pub mod Answers
-pub mod RangesLaws
-pub mod RepetitionLaws
+pub mod Requests

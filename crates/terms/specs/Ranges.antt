@@ -1,41 +1,59 @@
 -- The ranges of "Settings and signals" and of a frame, as facts in 01's order, and which setting word number 6 names.
 use mathlib.Core.Path.{_≡_}
+use mathlib.Core.Bool.{cond}
 use mathlib.Core.List.{List, [], _∷_}
-use mathlib.Core.Logic.{_⊎_}
 use Prim.Native.Nat.{ℕ, _*_, _^_, _≤_, _<_}
+use lib.Dec.{eqb}
+use Rattle.laws.specs.Rows.{Row, FirstRow, Hold}
+use Rattle.laws.specs.Lowest.{Between}
 use Rattle.terms.specs.declared.Settings.{Settings}
 use Rattle.terms.specs.declared.Signal.{Signal}
 use Rattle.terms.specs.declared.Frame.{Frame}
 
--- x is from low to high
-abbrev pub Between : ℕ → ℕ → ℕ → Type 0
-Between low high x = (low ≤ x) × (x ≤ high)
+-- 01's table: a word of the settings block, the setting that it holds, and what is asked of it
+pub record Setting : Type 1 where
+  pub word : ℕ
+  pub value : ℕ
+  pub range : Type 0
 
--- 01's table: the setting words, and what is asked of each
-abbrev pub settingRanges : Settings → List (ℕ × Type 0)
-settingRanges s =
-    (2, Between 10 16000 (s .cycle))
-    ∷ (3, Between 1 16000 (s .slot))
-    ∷ (4, Between 2 128 (s .slots) × (s .slots * s .slot ≤ s .cycle))
-    ∷ (5, s .packing ≤ 16000)
-    ∷ (6, Between 1 127 (s .payload))
+abbrev pub settingTable : Settings → List Setting
+settingTable s =
+    record { word = 2; value = s .cycle; range = Between 10 16000 (s .cycle) }
+    ∷ record { word = 3; value = s .slot; range = Between 1 16000 (s .slot) }
+    ∷ record { word = 4; value = s .slots; range = Between 2 128 (s .slots) × (s .slots * s .slot ≤ s .cycle) }
+    ∷ record { word = 5; value = s .packing; range = s .packing ≤ 16000 }
+    ∷ record { word = 6; value = s .payload; range = Between 1 127 (s .payload) }
     ∷ []
 
--- every range of a list holds
-abbrev pub AllHold : List (ℕ × Type 0) → Type 0
-AllHold [] = Unit {0}
-AllHold (r ∷ rs) = r .1 × AllHold rs
+-- each with "its word, lowest first; slots too long for the cycle is word 4"
+abbrev pub tableRows : List Setting → List Row
+tableRows [] = []
+tableRows (t ∷ ts) = record { number = 6; holds = t .range; place = λ p. p ≡ t .word } ∷ tableRows ts
 
--- w is the word of the first range that does not hold, or 0 where all hold
-abbrev pub FirstFailing : List (ℕ × Type 0) → ℕ → Type 0
-FirstFailing [] w = w ≡ 0
-FirstFailing (r ∷ rs) w = ((r .1 → ⊥) × (w ≡ r .0)) ⊎ (r .1 × FirstFailing rs w)
+abbrev pub settingRows : Settings → List Row
+settingRows s = tableRows (settingTable s)
 
 abbrev pub SettingsInRange : Settings → Type 0
-SettingsInRange s = AllHold (settingRanges s)
+SettingsInRange s = Hold (settingRows s)
 
+-- w is the word of the first setting that is out of range, or 0 where none is
 abbrev pub LowestOutOfRange : Settings → ℕ → Type 0
-LowestOutOfRange s w = FirstFailing (settingRanges s) w
+LowestOutOfRange s w = (n : ℕ) × FirstRow (settingRows s) (λ p. p ≡ 0) n w
+
+-- 6: "a setting out of range"
+abbrev pub settingRow : Settings → Row
+settingRow s = record { number = 6; holds = SettingsInRange s; place = LowestOutOfRange s }
+
+-- the setting that word w holds, or 0 where it holds none; and the settings of given words
+abbrev pub wordIn : List Setting → ℕ → ℕ
+wordIn [] w = 0
+wordIn (t ∷ ts) w = cond (eqb w (t .word)) (t .value) (wordIn ts w)
+
+abbrev pub settingWord : Settings → ℕ → ℕ
+settingWord s w = wordIn (settingTable s) w
+
+abbrev pub settingsFrom : (word : ℕ → ℕ) → Settings
+settingsFrom word = record { cycle = word 2; slot = word 3; slots = word 4; packing = word 5; payload = word 6 }
 
 -- a signal under settings s
 pub record SignalInRange (s : Settings) (x : Signal) : Type 0 where
@@ -54,8 +72,8 @@ pub record Valid (s : Settings) (x : Signal) : Type 0 where
 abbrev pub Repetition : ℕ → Type 0
 Repetition R = (e : ℕ) × (e ≤ 6) × (R ≡ 2 ^ e)
 
--- a frame under settings s: a slot from 1 to n, a repetition, and a base below it
-pub record FrameInRange (s : Settings) (f : Frame) : Type 0 where
-  pub slot : Between 1 (s .slots) (f .slot)
+-- a frame in n slots: a slot from 1 to n, a repetition, and a base below it
+pub record FrameInRange (slots : ℕ) (f : Frame) : Type 0 where
+  pub slot : Between 1 slots (f .slot)
   pub repetition : Repetition (f .repetition)
   pub base : f .base < f .repetition

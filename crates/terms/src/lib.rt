@@ -2,7 +2,12 @@
 // Promises: each judge is exact in both directions; an answer's number and place are those of 01's table.
 ghost use mathlib.Core.Path.{_≡_};
 ghost use Rattle.laws.specs.Says.{Says};
-ghost use Rattle.terms.specs.Ranges.{LowestOutOfRange, SignalInRange, Valid, Repetition, FrameInRange};
+ghost use Prim.Native.Nat.{_+_, _-_, _^_, _<_};
+ghost use lib.ListN.{getD, set};
+ghost use Rattle.laws.specs.Stored.{stored};
+ghost use Rattle.terms.specs.Ranges.{LowestOutOfRange, settingWord, SignalInRange, Valid, Repetition, FrameInRange};
+ghost use Rattle.terms.specs.Lists.{signalSize, entryStart, count, CountInRange, signalAt};
+ghost use Rattle.terms.specs.Results.{resultSize, resultStart, wordsOf};
 ghost use Rattle.terms.specs.Answers.{numberOf, placeOf, packedOf};
 
 // The settings words 2 to 6 in order: cycle length, slot length, number of slots, packing time, payload.
@@ -29,6 +34,20 @@ pub struct Frame {
     pub repetition: u32,
     pub base: u32,
 }
+
+// The words of a signal in a list, and the most signals of one.
+pub const SIGNAL_WORDS: usize = 5;
+
+pub const MOST_SIGNALS: usize = 600;
+
+// A signal's frame, and its age there.
+pub struct Result {
+    pub frame: Frame,
+    pub age: u32,
+}
+
+// The words of a result.
+pub const RESULT_WORDS: usize = 4;
 
 // 01's numbers 0 to 11, in order; what a case holds is its place.
 pub enum Answer {
@@ -186,7 +205,7 @@ pub fn is_repetition(r: u32) -> bool
 }
 
 pub fn frame_in_range(s: Settings, f: Frame) -> bool
-    ensures { λ r. ⌜ Says (FrameInRange s f) r ⌝ }
+    ensures { λ r. ⌜ Says (FrameInRange (s .slots) f) r ⌝ }
 {
     if f.slot < 1 {
         return false;
@@ -201,4 +220,100 @@ pub fn frame_in_range(s: Settings, f: Frame) -> bool
         return false;
     }
     true
+}
+
+// Setting word w, or 0 where w is none of theirs.
+pub fn setting_word(s: Settings, w: u32) -> u32
+    ensures { λ r. ⌜ r ≡ settingWord s w ⌝ }
+{
+    if w == 2 {
+        return s.cycle;
+    }
+    if w == 3 {
+        return s.slot;
+    }
+    if w == 4 {
+        return s.slots;
+    }
+    if w == 5 {
+        return s.packing;
+    }
+    if w == 6 {
+        return s.payload;
+    }
+    0
+}
+
+// The signals of a list.
+pub fn count(list: &[u32]) -> usize
+    ensures { λ r. ⌜ r ≡ count (now (list .entry)) ⌝ }
+{
+    list.len() / SIGNAL_WORDS
+}
+
+// Whether a list is of whole signals, and of at most 600.
+pub fn count_in_range(list: &[u32]) -> bool
+    ensures { λ r. ⌜ Says (CountInRange (now (list .entry))) r ⌝ }
+{
+    if list.len() % SIGNAL_WORDS != 0 {
+        return false;
+    }
+    count(list) <= MOST_SIGNALS
+}
+
+// The signals before signal i.
+fn earlier(i: u32) -> usize
+    ensures { λ r. ⌜ (r ≡ i - 1) × (r < 2 ^ 32) ⌝ }
+{
+    if i < 1 {
+        return 0;
+    }
+    (i - 1) as usize
+}
+
+// Word d of signal i, or 0 past the end of the list.
+fn signal_word(list: &[u32], i: u32, d: usize) -> u32
+    requires { ⌜ d < signalSize ⌝ }
+    ensures { λ r. ⌜ r ≡ getD (now (list .entry)) (entryStart signalSize i + d) 0 ⌝ }
+{
+    let at = SIGNAL_WORDS * earlier(i) + d;
+    if list.len() <= at {
+        return 0;
+    }
+    list[at]
+}
+
+// Signal i of a list, numbered from 1.
+pub fn signal_at(list: &[u32], i: u32) -> Signal
+    ensures { λ r. ⌜ r ≡ signalAt (now (list .entry)) i ⌝ }
+{
+    Signal {
+        unit: signal_word(list, i, 0),
+        period: signal_word(list, i, 1),
+        offset: signal_word(list, i, 2),
+        size: signal_word(list, i, 3),
+        bound: signal_word(list, i, 4),
+    }
+}
+
+// Makes x word d of the result of signal i; nothing past the end.
+fn put_result_word(results: &mut [u32], i: u32, d: usize, x: u32)
+    requires { ⌜ d < resultSize ⌝ }
+    ensures { λ _. ⌜ now (results .exit) ≡ set (now (results .entry)) (resultStart i + d) x ⌝ }
+{
+    let at = RESULT_WORDS * earlier(i) + d;
+    if at < results.len() {
+        results[at] = x;
+    }
+}
+
+// The result of signal i among results.
+pub fn put_result(results: &mut [u32], i: u32, r: Result)
+    ensures { λ _. ⌜ now (results .exit) ≡ stored (now (results .entry)) (resultStart i) (wordsOf r) ⌝ }
+{
+    let frame = r.frame;
+    put_result_word(results, i, 0, frame.slot);
+    put_result_word(results, i, 1, frame.base);
+    put_result_word(results, i, 2, frame.repetition);
+    put_result_word(results, i, 3, r.age);
 }

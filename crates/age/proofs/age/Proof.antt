@@ -1,8 +1,8 @@
 -- `age::age` meets its contract: the definition's age in range, and 0 elsewhere.
 -- Assumes nothing.
 use borrow.Author.Needs.{needs}
-use Rattle.laws.specs.GivenLaws.{given-inside, given-outside}
-use Rattle.laws.specs.SaysLaws.{granted, refused}
+use Rattle.laws.proofs.GivenLaws.{given-inside, given-outside}
+use Rattle.laws.proofs.SaysLaws.{granted, refused}
 use Rattle.age.specs.Age.{Age}
 use Rattle.age.specs.Given.{InRange}
 use Rattle.age.proofs.age.Statement.{statement}

@@ -3,9 +3,9 @@
 use Prim.Native.Nat.{ℕ, _+_, _≤_, _<_}
 use native.Mathlib.Omega.{arith}
 use lib.Dec.{lit<, lit≤}
-use Rattle.laws.specs.Orders.{product-below}
-use Rattle.terms.specs.RepetitionLaws.{repetition-most}
-use Rattle.age.specs.FrameLaws.{FrameBounded, frame-bounded}
+use Rattle.laws.proofs.Orders.{product-below}
+use Rattle.terms.proofs.RepetitionLaws.{repetition-most}
+use Rattle.age.proofs.FrameLaws.{FrameBounded, frame-bounded}
 use borrow.Author.Needs.{needs}
 use Rattle.age.proofs.age_in_range.Statement.{statement}
 use Rattle.age.proofs.age_in_range.Tie as tie

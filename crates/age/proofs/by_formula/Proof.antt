@@ -3,8 +3,8 @@
 use native.Mathlib.Nat.{mod-lt}
 use native.Mathlib.Omega.{arith}
 use borrow.Author.Needs.{needs}
-use Rattle.laws.specs.DivisorLaws.{gcd-positive, divisor-at-most}
-use Rattle.age.specs.GivenLaws.{longest-given-most, given-age}
+use Rattle.laws.proofs.DivisorLaws.{gcd-positive, divisor-at-most}
+use Rattle.age.proofs.GivenLaws.{longest-given-most, given-age}
 use Rattle.age.proofs.by_formula.Statement.{statement}
 use Rattle.age.proofs.by_formula.Tie as tie
 

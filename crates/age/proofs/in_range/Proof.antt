@@ -1,7 +1,7 @@
 -- `age::in_range` meets its contract: each judge decides one fact of the record.
 -- Assumes nothing.
 use borrow.Author.Needs.{needs}
-use Rattle.laws.specs.SaysLaws.{granted, refused}
+use Rattle.laws.proofs.SaysLaws.{granted, refused}
 use Rattle.age.proofs.in_range.Statement.{statement}
 use Rattle.age.proofs.in_range.Tie as tie
 

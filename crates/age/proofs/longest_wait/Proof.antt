@@ -4,7 +4,7 @@ use Prim.Native.Nat.{_%_}
 use native.Mathlib.Nat.{le-trans, mod-le, mod-lt}
 use native.Mathlib.Omega.{arith}
 use borrow.Author.Needs.{needs}
-use Rattle.age.specs.FormulaLaws.{longest-from-top}
+use Rattle.age.proofs.FormulaLaws.{longest-from-top}
 use Rattle.age.proofs.longest_wait.Statement.{statement}
 use Rattle.age.proofs.longest_wait.Tie as tie
 

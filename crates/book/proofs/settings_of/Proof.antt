@@ -1,12 +1,10 @@
 -- `book::settings_of` meets its contract: a book that 1 to 5 do not refuse is sound, and any other gives five zeros.
 -- Assumes nothing.
-use mathlib.Core.Path.{_≡_, sym, _∙_}
-use mathlib.Core.Bool.{true}
 use native.Mathlib.Omega.{arith}
 use borrow.Author.Needs.{needs}
-use Rattle.book.specs.Reading.{sound}
-use Rattle.book.proofs.SoundLaws.{sound-facts}
-use Rattle.book.proofs.AnswerLaws.{judged-sound, judged-refused, settings-none, settings-some}
+use Rattle.laws.specs.Rows.{Hold}
+use Rattle.book.specs.Reading.{bookRows}
+use Rattle.book.proofs.SoundLaws.{sound-length, judged-sound, judged-unsound}
 use Rattle.book.proofs.settings_of.Statement.{statement}
 use Rattle.book.proofs.settings_of.Tie as tie
 
@@ -16,29 +14,30 @@ judge-requires c κs = search needs
 number-requires : tie.Need-number-requires
 number-requires c κs = search needs
 
-refused-requires : tie.Need-refused-requires
-refused-requires c κs = search needs
+no-settings-requires : tie.Need-no-settings-requires
+no-settings-requires c κs = search needs
 
 returns : tie.Need-returns
 returns c =
-    let test = c .before .before in
-    let b = test .before .before .before .before .args .book .now in
-    c .before .refused .ensures .1
-    ∙ sym (settings-none b (judged-refused b _ _ (test .before .before .judge .ensures) (test .before .number .ensures) (test .if1 .taken)))
+    let judge = c .before .before .before in
+    let unsound = judged-unsound (judge .before .before .args .book .now) (judge .judge .result) (judge .judge .ensures)
+    (λ z. omega (arith, c .before .before .number .ensures)) in
+    record { sound = λ h. absurd (unsound h); unsound = λ n. c .no-settings .ensures }
 
 -- past the refusals the book is sound
-book-sound : (c : tie.Else1) → sound (c .before .before .before .before .args .book .now) ≡ true
-book-sound c = judged-sound _ _ _ (c .before .before .judge .ensures) (c .before .number .ensures) (c .if1 .left)
+book-sound : (c : tie.Else1) → Hold (bookRows (c .before .before .before .before .args .book .now))
+book-sound c =
+    let judge = c .before .before in
+    judged-sound (judge .before .before .args .book .now) (judge .judge .result) (judge .judge .ensures)
+    (omega (arith, c .before .number .ensures)) .0
 
 settings-in-requires : tie.Need-settings-in-requires
 settings-in-requires c κs =
-    let facts = sound-facts _ (book-sound c) in
-    omega (arith, facts .nonempty, facts .whole)
+    let right = sound-length _ (book-sound c) in
+    omega (arith, right .some, right .whole)
 
 returns-2 : tie.Need-returns-2
-returns-2 c =
-    let b = c .before .before .before .before .before .args .book .now in
-    c .settings-in .ensures ∙ sym (settings-some b (book-sound (c .before)))
+returns-2 c = record { sound = λ h. c .settings-in .ensures; unsound = λ n. absurd (n (book-sound (c .before))) }
 
 pub settings-of-spec : {M : Type 1} → statement M
 settings-of-spec =
@@ -46,7 +45,7 @@ settings-of-spec =
     (tie.spec
     judge-requires
     number-requires
-    refused-requires
+    no-settings-requires
     returns
     settings-in-requires
     returns-2)

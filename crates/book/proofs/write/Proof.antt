@@ -1,88 +1,96 @@
 -- `book::write` meets its contract: the refusals 4 and 10 come before the first store; else the room holds the book.
-use mathlib.Core.Path.{_≡_, refl, ap, _∙_}
+-- Assumes nothing.
+use mathlib.Core.Path.{_≡_, ap, _∙_}
 use mathlib.Core.List.{_++_}
-use Prim.Native.Nat.{ℕ, _*_, _/_, _≤_, _<_}
+use Prim.Native.Nat.{ℕ, _*_}
 use native.Mathlib.Omega.{arith}
-use lib.ListN.{length, drop}
+use lib.ListN.{drop}
 use borrow.Author.Needs.{needs}
-use Rattle.terms.specs.declared.Answer.the-variants.{Done, Room}
-use Rattle.book.specs.Words.{bytesOf}
-use Rattle.book.specs.Blocks.{blocksFor, bookWord, bookOf, writeAnswer}
-use Rattle.book.proofs.AnswerLaws.{write-refusal, write-uneven, write-many, write-short, write-done, write-filled}
+use Rattle.laws.proofs.SaysLaws.{granted, refused}
+use Rattle.terms.specs.Lists.{count, CountInRange}
+use Rattle.book.specs.Words.{bytesOver}
+use Rattle.book.specs.Blocks.{blocksFor, bookWord, bookOf}
+use Rattle.book.proofs.WriteLaws.{write-refused, write-short, write-done}
 use Rattle.book.proofs.write.Statement.{statement}
 use Rattle.book.proofs.write.Tie as tie
 
+abbrev begin : tie.Else1 → tie.Start
+begin c = c .before .before .before .before
+
+-- past the refusal the list is in range, and the blocks are its own
+in-range : (c : tie.Else1) → CountInRange (begin c .args .list .now)
+in-range c = let test = c .before .count-in-range in granted (test .result) (test .ensures) (c .if1 .left)
+
+own-blocks : (c : tie.After-blocks-for)
+    → c .blocks-for .result ≡ blocksFor (count (begin (c .before .before) .args .list .now))
+own-blocks c = c .blocks-for .ensures ∙ ap blocksFor (c .before .count .ensures)
+
+count-in-range-requires : tie.Need-count-in-range-requires
+count-in-range-requires c κs = search needs
+
 returns : tie.Need-returns
 returns c =
-    let args = c .before .before .before .args in
-    let answer = write-uneven (args .s) (args .list .now) (args .room .now) (c .if1 .taken) in
-    record { answer = answer; room = write-refusal (args .s) (args .list .now) (args .room .now) _ answer refl }
+    let test = c .before .count-in-range in
+    write-refused _ _ _ (refused (test .result) (test .ensures) (c .if1 .taken))
+
+count-requires : tie.Need-count-requires
+count-requires c κs = search needs
+
+blocks-for-requires : tie.Need-blocks-for-requires
+blocks-for-requires c κs = omega (arith, in-range (c .before) .few, c .count .ensures)
+
+mul-bytes : tie.Need-mul-bytes
+mul-bytes c = search needs
+
+cast-t9 : tie.Need-cast-t9
+cast-t9 c =
+    let made = c .before in
+    omega (arith, in-range (made .before .before) .few, own-blocks made)
 
 returns-2 : tie.Need-returns-2
 returns-2 c =
-    let args = c .before .before .before .before .args in
-    let answer = write-many (args .s) (args .list .now) (args .room .now) (c .before .if1 .left) (c .if2 .taken) in
-    record { answer = answer; room = write-refusal (args .s) (args .list .now) (args .room .now) _ answer refl }
-
-blocks-for-requires : tie.Need-blocks-for-requires
-blocks-for-requires c κs = search needs
-
-mul-if3 : tie.Need-mul-if3
-mul-if3 c = search needs
-
-mul-t9 : tie.Need-mul-t9
-mul-t9 c = search needs
-
-cast-t10 : tie.Need-cast-t10
-cast-t10 c = search needs
-
-returns-3 : tie.Need-returns-3
-returns-3 c =
-    let args = c .before .before .before .before .before .before .args in
-    let blocks = c .before .blocks-for .ensures in
-    let short : length (args .room .now) < 512 * blocksFor (length (args .list .now) / 5) = omega arith in
-    let answer : Room (512 * c .before .blocks-for .result) ≡ writeAnswer (args .list .now) (length (args .room .now)) =
-    ap (λ (n : ℕ). Room (512 * n)) blocks
-    ∙ write-short (args .s) (args .list .now) (args .room .now) (c .before .before .before .if1 .left) (c .before .before .if2 .left) short
-    in
-    record { answer = answer; room = write-refusal (args .s) (args .list .now) (args .room .now) _ answer refl }
+    let made = c .before in
+    write-short _ _ _ (in-range (made .before .before)) _ (ap (λ (n : ℕ). 512 * n) (own-blocks made)) (omega arith)
 
 fill-requires : tie.Need-fill-requires
-fill-requires c κs = search needs
+fill-requires c κs =
+    let made = c .before .before in
+    omega (arith, in-range (made .before .before) .few, own-blocks made)
 
-cast-t14 : tie.Need-cast-t14
-cast-t14 c = search needs
+cast-t13 : tie.Need-cast-t13
+cast-t13 c =
+    let made = c .before .before .before .before .before in
+    omega (arith, in-range (made .before .before) .few, own-blocks made)
 
 same-length : tie.Need-same-length
 same-length c = search needs
 
-returns-4 : tie.Need-returns-4
+returns-3 : tie.Need-returns-3
 unfolding bookOf
-returns-4 c =
-    let args = c .before .before .before .before .before .before .before .before .before .before .args in
-    let even = c .before .before .before .before .before .before .before .if1 .left in
-    let few = c .before .before .before .before .before .before .if2 .left in
-    let blocks = c .before .before .before .before .before .blocks-for .ensures in
-    let enough : 512 * blocksFor (length (args .list .now) / 5) ≤ length (args .room .now) = omega arith in
-    record {
-      answer = ap Done blocks ∙ write-done (args .s) (args .list .now) (args .room .now) even few enough;
-      room = c .before .before .fill .ensures
-          ∙ ap (λ (n : ℕ). bytesOf (bookWord (args .s) (args .list .now)) (128 * n) ++ drop (512 * n) (args .room .now)) blocks
-          ∙ write-filled (args .s) (args .list .now) (args .room .now) even few enough;
-    }
+returns-3 c =
+    let call = c .before .before in
+    let made = call .before .before .before in
+    let args = begin (made .before .before) .args in
+    let blocks = own-blocks made in
+    let n = blocksFor (count (args .list .now)) in
+    let end : 4 * (128 * n) ≡ 512 * n = omega arith in
+    write-done _ _ _ (in-range (made .before .before)) _ blocks (omega arith)
+    (call .fill .ensures
+    ∙ ap (λ (n : ℕ). bytesOver (bookWord (args .s) (args .list .now)) (128 * n) (args .room .now)) blocks
+    ∙ ap (λ (n : ℕ). bookOf (args .s) (args .list .now) ++ drop n (args .room .now)) end)
 
 pub write-spec : {M : Type 1} → statement M
 write-spec =
     tie.close
     (tie.spec
+    count-in-range-requires
     returns
-    returns-2
+    count-requires
     blocks-for-requires
-    mul-if3
-    mul-t9
-    cast-t10
-    returns-3
+    mul-bytes
+    cast-t9
+    returns-2
     fill-requires
-    cast-t14
+    cast-t13
     same-length
-    returns-4)
+    returns-3)

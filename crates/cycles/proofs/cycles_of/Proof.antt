@@ -3,11 +3,11 @@
 -- Assumes nothing.
 use native.Mathlib.Omega.{arith}
 use borrow.Author.Needs.{needs}
-use Rattle.laws.specs.SaysLaws.{granted, refused}
+use Rattle.laws.proofs.SaysLaws.{granted, refused}
 use Rattle.terms.specs.Ranges.{Repetition}
-use Rattle.cycles.specs.MaskLaws.{mask-none}
+use Rattle.cycles.proofs.MaskLaws.{mask-none}
 use Rattle.cycles.specs.Frames.{Names}
-use Rattle.cycles.specs.FrameLaws.{repetition-most}
+use Rattle.cycles.proofs.FrameLaws.{repetition-most}
 use Rattle.cycles.proofs.Words.{shifted}
 use Rattle.cycles.proofs.cycles_of.Statement.{statement}
 use Rattle.cycles.proofs.cycles_of.Tie as tie

@@ -2,11 +2,11 @@
 -- Assumes nothing.
 use native.Mathlib.Omega.{arith}
 use borrow.Author.Needs.{needs}
-use Rattle.laws.specs.SaysLaws.{granted, refused}
+use Rattle.laws.proofs.SaysLaws.{granted, refused}
 use Rattle.terms.specs.Ranges.{Repetition}
-use Rattle.cycles.specs.MaskLaws.{mask-none}
-use Rattle.cycles.specs.Frames.{patterns, Multiple}
-use Rattle.cycles.proofs.Patterns.{exponent-small, pattern-of}
+use Rattle.cycles.proofs.MaskLaws.{mask-none}
+use Rattle.cycles.specs.Frames.{Multiple}
+use Rattle.cycles.proofs.Patterns.{patterns, exponent-small, pattern-of}
 use Rattle.cycles.proofs.pattern.Statement.{statement}
 use Rattle.cycles.proofs.pattern.Tie as tie
 

@@ -1,20 +1,24 @@
 -- `editor::noctelvia_plan` meets its contract: reading, then planning what was read.
 -- Assumes nothing.
-use mathlib.Core.Path.{_≡_, sym, ap, _∙_, subst}
-use mathlib.Core.Bool.{true}
+use mathlib.Core.Path.{_≡_, refl, sym, ap, _∙_, subst, subst₂}
 use mathlib.Core.List.{List}
 use Prim.Native.Nat.{ℕ, _*_, _≤_}
 use native.Mathlib.Omega.{arith}
 use lib.ListN.{take, length-take}
-use Rattle.terms.specs.declared.Settings.{Settings}
-use Rattle.terms.specs.declared.Answer.{Answer}
-use Rattle.terms.specs.declared.Answer.the-variants.{Done}
-use Rattle.terms.specs.Answers.{placeOf}
-use Rattle.book.specs.Reading.{sound, signalsOf, settingsIn, listIn}
-use Rattle.book.proofs.ReadLaws.{read-gives, read-sound, read-unsound}
-use Rattle.editor.specs.BookPlan.{BytesPlanned, BookPlanned}
-use Rattle.editor.specs.BookPlan.BookPlanned.{unread, planned}
 use borrow.Author.Needs.{needs}
+use Rattle.terms.specs.declared.Settings.{Settings}
+use Rattle.laws.specs.Rows.{Hold}
+use Rattle.terms.specs.Answers.{numberOf, placeOf}
+use Rattle.terms.specs.Requests.{request}
+use Rattle.terms.specs.Lists.{signalSize, CountInRange}
+use Rattle.book.specs.Reading.{signalsOf, settingsIn, listIn, bookRows}
+use Rattle.book.proofs.ReadLaws.{read-gives, read-refuses}
+use Rattle.book.proofs.SoundLaws.{sound-count}
+use Rattle.book.proofs.AcceptedLaws.{list-in-range}
+use Rattle.planner.specs.Rows.{Needed}
+use Rattle.editor.specs.Rows.{bytesRows}
+use Rattle.editor.specs.Private.{BytesPlanned}
+use Rattle.editor.proofs.BookLaws.{book-planned}
 use Rattle.editor.proofs.noctelvia_plan.Statement.{statement}
 use Rattle.editor.proofs.noctelvia_plan.Tie as tie
 
@@ -32,13 +36,20 @@ packed-requires c κs = search needs
 
 returns : tie.Need-returns
 returns c =
-    let test = c .before in
-    let r = test .before .before .before in
+    let n = c .before .before in
+    let r = n .before .before in
     let a = r .before .before .before .before .args in
-    let out = read-unsound (omega arith) (r .read .ensures) (λ z. omega (arith, test .before .number .ensures)) in
+    let refused : numberOf (r .read .result .answer) ≡ 0 → ⊥ = λ z. c .before .if1 .taken (n .number .ensures ∙ z) in
     record {
       given = r .read .result .answer;
-      plan = subst (λ (x : Answer). BookPlanned (a .book .now) (a .results .now) x (a .results .now)) (sym (out .1)) (unread (out .0));
+      planned =
+          record {
+            answer =
+                read-refuses (r .read .ensures) (omega arith) refused (bytesRows (settingsIn (a .book .now)) (listIn (a .book .now)) _)
+                (Needed (settingsIn (a .book .now)) (listIn (a .book .now)));
+            refused = λ m. refl;
+            done = λ z. absurd (refused z);
+          };
       answer = c .packed .ensures;
     }
 
@@ -54,39 +65,42 @@ mul-words c = search needs
 abbrev Read : tie.Else1 → tie.After-read
 Read e = e .before .before .before
 
-abbrev Begin : tie.Else1 → tie.Start
-Begin e = Read e .before .before .before .before
+abbrev Book : tie.Else1 → List ℕ
+Book e = Read e .before .before .before .before .args .book .now
 
--- the book is sound, and reading is done with its signals
-done-with : (e : tie.Else1) → (sound (Begin e .args .book .now) ≡ true) × (Read e .read .result .answer ≡ Done (signalsOf (Begin e .args .book .now)))
-done-with e = read-sound (omega arith) (Read e .read .ensures) (omega (arith, e .before .number .ensures))
+-- what reading gave of a sound book
+record Given (e : tie.Else1) : Type 0 where
+  sound : Hold (bookRows (Book e))
+  signals : placeOf (Read e .read .result .answer) ≡ signalsOf (Book e)
+  settings : Read e .read .result .settings ≡ settingsIn (Book e)
+  words : take (signalSize * signalsOf (Book e)) (Read e .read .last .1 .0) ≡ listIn (Book e)
 
--- what reading gave
-gives :
-    (e : tie.Else1) →
-    (signalsOf (Begin e .args .book .now) ≤ 600)
-    × (Read e .read .result .settings ≡ settingsIn (Begin e .args .book .now))
-    × (take (5 * signalsOf (Begin e .args .book .now)) (Read e .read .last .1 .0) ≡ listIn (Begin e .args .book .now))
-gives e = let g = read-gives (Read e .read .ensures) (done-with e .1) in (g .few, g .settings, g .words)
+gives : (e : tie.Else1) → Given e
+gives e =
+    let g = read-gives (Read e .read .ensures) (sym (e .before .number .ensures) ∙ e .if1 .left) in
+    record { sound = g .sound; signals = g .signals; settings = g .settings; words = g .words }
 
--- the place of the answer is the signals read
-counted : (c : tie.After-place) → c .place .result ≡ signalsOf (Begin (c .before .before) .args .book .now)
-counted c = c .place .ensures ∙ ap placeOf (done-with (c .before .before) .1)
+few : (e : tie.Else1) → signalsOf (Book e) ≤ 600
+few e = sound-count (Book e) (gives e .sound) .0
+
+-- the list that is planned is the book's
+read-list : (c : tie.After-place) → take (signalSize * c .place .result) (Read (c .before .before) .read .last .1 .0) ≡ listIn (Book (c .before .before))
+read-list c =
+    let g = gives (c .before .before) in
+    ap (λ (n : ℕ). take (signalSize * n) (Read (c .before .before) .read .last .1 .0)) (c .place .ensures ∙ g .signals) ∙ g .words
 
 array-share-prefix-list : tie.Need-array-share-prefix-list
-array-share-prefix-list c = let g = gives (c .before .before) in omega (arith, counted c, g .0)
+array-share-prefix-list c = let e = c .before .before in omega (arith, c .place .ensures, gives e .signals, few e)
 
 slice-aggregate-plan-bytes : tie.Need-slice-aggregate-plan-bytes
 slice-aggregate-plan-bytes c =
-    let g = gives (c .before .before .before) in
-    simp length-take (omega (arith, counted (c .before), g .0))
+    let e = c .before .before .before in
+    simp length-take (omega (arith, c .before .place .ensures, gives e .signals, few e))
 
 plan-bytes-requires : tie.Need-plan-bytes-requires
 plan-bytes-requires c κs =
     let p = c .before .before in
-    let e = p .before .before in
-    let g = gives e in
-    record { whole = simp length-take (omega (arith, counted p, g .0)); few = simp length-take (omega (arith, counted p, g .0)) }
+    subst CountInRange (sym (read-list p)) (list-in-range (Book (p .before .before)) (gives (p .before .before) .sound))
 
 packed-requires-2 : tie.Need-packed-requires-2
 packed-requires-2 c κs = search needs
@@ -99,16 +113,14 @@ returns-2 c =
     let call = c .before .before .before in
     let p = call .before .before .before in
     let e = p .before .before in
-    let a = Begin e .args in
-    let g = gives e in
-    let words = ap (λ (n : ℕ). take (5 * n) (Read e .read .last .1 .0)) (counted p) ∙ g .2 in
+    let a = Read e .before .before .before .before .args in
     record {
       given = call .plan-bytes .result;
-      plan =
-          planned (done-with e .0)
-          (subst (λ (s : Settings). BytesPlanned s (listIn (a .book .now)) (a .results .now) (call .plan-bytes .result) (call .plan-bytes .last .1 .1 .0)) (g .1)
-          (subst (λ (l : List ℕ). BytesPlanned (Read e .read .result .settings) l (a .results .now) (call .plan-bytes .result) (call .plan-bytes .last .1 .1 .0)) words
-          (call .plan-bytes .ensures)));
+      planned =
+          book-planned (Book e) (a .results .now) (call .plan-bytes .result) (call .plan-bytes .last .1 .1 .0) (gives e .sound)
+          (subst₂
+          (λ (t : Settings) (l : List ℕ). BytesPlanned (request t l) (a .results .now) (call .plan-bytes .result) (call .plan-bytes .last .1 .1 .0))
+          (gives e .settings) (read-list p) (call .plan-bytes .ensures));
       answer = c .packed2 .ensures;
     }
 

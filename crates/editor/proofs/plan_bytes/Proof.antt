@@ -1,50 +1,29 @@
--- `editor::plan_bytes` meets its contract: 6 and 10 for the bytes first, then the plan over words, shown as bytes.
+-- `editor::plan_bytes` meets its contract: planning's own answer, but for bytes that are too few, and its words as bytes.
 -- Assumes nothing.
-use mathlib.Core.Path.{sym, subst}
+use mathlib.Core.Path.{_∙_, sym, ap, subst}
+use mathlib.Core.List.{List}
+use Prim.Native.Nat.{ℕ, _*_}
 use native.Mathlib.Omega.{arith}
-use lib.ListN.{length-take}
-use Rattle.terms.specs.Ranges.{SettingsInRange}
-use Rattle.terms.specs.RangesLaws.{settings-granted}
-use Rattle.editor.specs.BookPlan.{BytesPlanned}
-use Rattle.editor.specs.BookPlanLaws.{bytes-refused-6, bytes-refused-10, bytes-refused, bytes-done}
+use lib.ListN.{take, length-take}
 use borrow.Author.Needs.{needs}
+use Rattle.terms.specs.declared.Answer.the-variants.{Room}
+use Rattle.terms.specs.Requests.{Request, request}
+use Rattle.terms.specs.Results.{resultSize}
+use Rattle.book.specs.Words.{bytesAfter}
+use Rattle.editor.specs.Private.{BytesPlanned}
+use Rattle.editor.proofs.BytesLaws.{refused-six, refused-short, refused-rest, bytes-done}
 use Rattle.editor.proofs.plan_bytes.Statement.{statement}
 use Rattle.editor.proofs.plan_bytes.Tie as tie
 
-setting-out-of-range-requires : tie.Need-setting-out-of-range-requires
-setting-out-of-range-requires c κs = search needs
+abbrev Begin : tie.After-plan → tie.Start
+Begin p = p .before .before .before .before .before
 
-returns : tie.Need-returns
-returns c =
-    let a = c .before .before .before .before .args in
-    let w = c .before .setting-out-of-range in
-    bytes-refused-6 (a .s) (a .list .now) (a .results .now) (w .result) (w .ensures) (λ z. omega arith)
+-- what is asked, and the bytes lent
+abbrev asked : tie.After-plan → Request
+asked p = request (Begin p .args .s) (Begin p .args .list .now)
 
-mul-words : tie.Need-mul-words
-mul-words c = search needs
-
-mul-if2 : tie.Need-mul-if2
-mul-if2 c = search needs
-
-mul-t12 : tie.Need-mul-t12
-mul-t12 c = search needs
-
-cast-t13 : tie.Need-cast-t13
-cast-t13 c = search needs
-
--- past the first question the settings are in range
-abbrev Begin : tie.Else1 → tie.Start
-Begin e = e .before .before .before .before
-
-settings : (e : tie.Else1) → SettingsInRange (Begin e .args .s)
-settings e =
-    let w = e .before .setting-out-of-range in
-    settings-granted (Begin e .args .s) (w .result) (w .ensures) (omega arith)
-
-returns-2 : tie.Need-returns-2
-returns-2 c =
-    let a = Begin (c .before) .args in
-    bytes-refused-10 (a .s) (a .list .now) (a .results .now) (settings (c .before)) _ (omega arith) (omega arith)
+abbrev lent : tie.After-plan → List ℕ
+lent p = Begin p .args .results .now
 
 slice-aggregate-plan : tie.Need-slice-aggregate-plan
 slice-aggregate-plan c = search needs
@@ -58,14 +37,43 @@ plan-requires c κs = search needs
 number-requires : tie.Need-number-requires
 number-requires c κs = search needs
 
+returns : tie.Need-returns
+returns c =
+    let n = c .before in
+    let p = n .before .before .before in
+    refused-six (asked p) (lent p) _ (Begin p .pre) (record { cells = omega arith; results = omega arith }) (p .plan .ensures)
+    (sym (n .number .ensures) ∙ c .if1 .taken)
+
+count-requires : tie.Need-count-requires
+count-requires c κs = search needs
+
+mul-words : tie.Need-mul-words
+mul-words c = search needs
+
+mul-if2 : tie.Need-mul-if2
+mul-if2 c = search needs
+
+mul-t16 : tie.Need-mul-t16
+mul-t16 c = search needs
+
+cast-t17 : tie.Need-cast-t17
+cast-t17 c = search needs
+
+returns-2 : tie.Need-returns-2
+returns-2 c =
+    let n = c .before .before .before in
+    let p = n .before .before .before in
+    subst (λ (m : ℕ). BytesPlanned (asked p) (lent p) (Room (4 * (resultSize * m))) (lent p)) (sym (c .before .count .ensures))
+    (refused-short (asked p) (lent p) _ (Begin p .pre) (record { cells = omega arith; results = omega arith }) (p .plan .ensures)
+    (λ e. c .before .before .if1 .left (n .number .ensures ∙ e)) (omega (arith, c .before .count .ensures)))
+
 returns-3 : tie.Need-returns-3
 returns-3 c =
-    let p = c .before .before .before .before in
-    let e = p .before .before .before in
-    let a = Begin (e .before) .args in
-    let s = settings (e .before) in
-    bytes-refused (a .s) (a .list .now) (a .results .now) s (Begin (e .before) .pre) (omega arith) _ _ (omega arith) (omega arith) (p .plan .result) _ _
-    (p .plan .ensures) (λ z. omega (arith, c .before .number .ensures))
+    let m = c .before .before in
+    let n = m .before .before in
+    let p = n .before .before .before in
+    refused-rest (asked p) (lent p) _ (Begin p .pre) (record { cells = omega arith; results = omega arith }) (p .plan .ensures)
+    (λ e. m .before .if1 .left (n .number .ensures ∙ e)) (omega (arith, m .count .ensures)) (λ z. c .if3 .taken (n .number .ensures ∙ z))
 
 array-share-prefix-shown : tie.Need-array-share-prefix-shown
 array-share-prefix-shown c = search needs
@@ -82,30 +90,33 @@ same-length c = search needs
 returns-4 : tie.Need-returns-4
 returns-4 c =
     let w = c .before .before in
-    let third = w .before .before .before in
-    let p = third .before .before .before .before in
-    let e = p .before .before .before in
-    let a = Begin (e .before) .args in
-    let s = settings (e .before) in
-    subst (BytesPlanned (a .s) (a .list .now) (a .results .now) (p .plan .result)) (sym (w .put-words .ensures))
-    (bytes-done (a .s) (a .list .now) (a .results .now) s (Begin (e .before) .pre) (omega arith) _ _ (omega arith) (omega arith) (p .plan .result) _ _
-    (p .plan .ensures) (omega (arith, third .before .number .ensures)))
+    let e = w .before .before .before in
+    let m = e .before .before in
+    let n = m .before .before in
+    let p = n .before .before .before in
+    let done =
+    bytes-done (asked p) (lent p) _ (Begin p .pre) (record { cells = omega arith; results = omega arith }) (p .plan .ensures)
+    (λ d. m .before .if1 .left (n .number .ensures ∙ d)) (omega (arith, m .count .ensures)) (sym (n .number .ensures) ∙ e .if3 .left) in
+    subst (BytesPlanned (asked p) (lent p) (p .plan .result))
+    (sym
+    (w .put-words .ensures
+    ∙ ap (λ (k : ℕ). bytesAfter (take (resultSize * k) (p .plan .last .1 .1 .1 .0)) (lent p)) (m .count .ensures))) done
 
 pub plan-bytes-spec : {M : Type 1} → statement M
 plan-bytes-spec =
     tie.close
     (tie.spec
-    setting-out-of-range-requires
-    returns
-    mul-words
-    mul-if2
-    mul-t12
-    cast-t13
-    returns-2
     slice-aggregate-plan
     slice-aggregate-plan-2
     plan-requires
     number-requires
+    returns
+    count-requires
+    mul-words
+    mul-if2
+    mul-t16
+    cast-t17
+    returns-2
     returns-3
     array-share-prefix-shown
     slice-aggregate-put-words

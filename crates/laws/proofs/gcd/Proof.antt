@@ -5,7 +5,7 @@ use Prim.Native.Nat.{ℕ}
 use native.Mathlib.Omega.{arith}
 use native.Mathlib.Nat.{mod-lt}
 use Rattle.laws.specs.Divisor.{IsGcd}
-use Rattle.laws.specs.DivisorLaws.{gcd-step, gcd-zero}
+use Rattle.laws.proofs.DivisorLaws.{gcd-step, gcd-zero}
 use Rattle.laws.proofs.gcd.Statement.{statement}
 use Rattle.laws.proofs.gcd.Tie as tie
 

@@ -5,10 +5,10 @@ use Rattle.noctelvia.proofs.show.Statement.{statement}
 use Rattle.noctelvia.proofs.show.Tie as tie
 
 abbrev Inv-loop : tie.InvT-loop
-Inv-loop list results signals used slots i₀ i = i ≤ signals
+Inv-loop list results signals used slots signal₀ signal = signal ≤ signals
 
 abbrev μ-loop : tie.MeasureT-loop
-μ-loop list results signals used slots i₀ i = signals - i
+μ-loop list results signals used slots signal₀ signal = signals - signal
 
 slice-aggregate-write-all : tie.Need-slice-aggregate-write-all Inv-loop μ-loop
 slice-aggregate-write-all c = search needs
@@ -34,11 +34,11 @@ write-all-requires-2 c κs = search needs
 loop-holds : tie.Need-loop-holds Inv-loop μ-loop
 loop-holds c = search needs
 
+add-signal : tie.Need-add-signal Inv-loop μ-loop
+add-signal c = search needs
+
 line-requires : tie.Need-line-requires Inv-loop μ-loop
 line-requires c κs = search needs
-
-add-i : tie.Need-add-i Inv-loop μ-loop
-add-i c = search needs
 
 loop-less : tie.Need-loop-less Inv-loop μ-loop
 loop-less c = search needs
@@ -63,8 +63,8 @@ show-spec =
     slice-aggregate-write-all-2
     write-all-requires-2
     loop-holds
+    add-signal
     line-requires
-    add-i
     loop-less
     loop-again
     returns)

@@ -2,9 +2,8 @@
 -- Assumes nothing.
 use Prim.Native.Nat.{ℕ, _+_, _*_, _-_, _≤_}
 use native.Mathlib.Omega.{arith}
-use Rattle.laws.specs.Along.{Passed}
-use Rattle.laws.specs.AlongLaws.{passed-none, passed-one, passed-all, passed-not, passed-below}
-use Rattle.laws.specs.SaysLaws.{granted, refused}
+use Rattle.laws.proofs.AlongLaws.{passed-none, passed-one, passed-all, passed-not, passed-below, Passed}
+use Rattle.laws.proofs.SaysLaws.{granted, refused}
 use Rattle.rule.specs.Waits.{SlotsKept}
 use Rattle.rule.proofs.bases_keep.Statement.{statement}
 use Rattle.rule.proofs.bases_keep.Tie as tie

@@ -4,10 +4,10 @@ use native.Mathlib.Nat.{mod-lt}
 use native.Mathlib.Omega.{arith}
 use borrow.Author.Needs.{needs}
 use Prim.Native.Nat.{_*_}
-use Rattle.laws.specs.DivisorLaws.{gcd-positive, divisor-at-most}
-use Rattle.laws.specs.SaysLaws.{says-same}
-use Rattle.terms.specs.Ranges.{Between}
-use Rattle.rule.specs.RuleLaws.{span-range, searched-keeps, keeps-searched}
+use Rattle.laws.proofs.DivisorLaws.{gcd-positive, divisor-at-most}
+use Rattle.laws.proofs.SaysLaws.{says-same}
+use Rattle.laws.specs.Lowest.{Between}
+use Rattle.rule.proofs.RuleLaws.{span-range, searched-keeps, keeps-searched}
 use Rattle.rule.proofs.keeps.Statement.{statement}
 use Rattle.rule.proofs.keeps.Tie as tie
 

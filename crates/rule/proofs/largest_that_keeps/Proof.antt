@@ -2,9 +2,9 @@
 -- Assumes nothing.
 use Prim.Native.Nat.{ℕ}
 use native.Mathlib.Omega.{arith}
-use Rattle.laws.specs.SaysLaws.{said, denied}
+use Rattle.laws.proofs.SaysLaws.{said, denied}
 use Rattle.rule.specs.Rule.{Keeps, segment}
-use Rattle.rule.specs.RuleLaws.{Left, left-start, left-repetition, left-half, left-found, left-none}
+use Rattle.rule.proofs.RuleLaws.{Left, left-start, left-repetition, left-half, left-found, left-none}
 use Rattle.rule.proofs.largest_that_keeps.Statement.{statement}
 use Rattle.rule.proofs.largest_that_keeps.Tie as tie
 

@@ -3,9 +3,8 @@
 use Prim.Native.Nat.{ℕ, _-_}
 use native.Mathlib.Omega.{arith}
 use borrow.Author.Needs.{needs}
-use Rattle.laws.specs.Along.{Passed}
-use Rattle.laws.specs.AlongLaws.{passed-none, passed-one, passed-all, passed-not, passed-below}
-use Rattle.age.specs.GivenLaws.{longest-given-unique, longest-given-most}
+use Rattle.laws.proofs.AlongLaws.{passed-none, passed-one, passed-all, passed-not, passed-below, Passed}
+use Rattle.age.proofs.GivenLaws.{longest-given-unique, longest-given-most}
 use Rattle.rule.specs.Waits.{WaitKept}
 use Rattle.rule.proofs.slots_keep.Statement.{statement}
 use Rattle.rule.proofs.slots_keep.Tie as tie

@@ -1,7 +1,7 @@
 -- `terms::frame_in_range` meets its contract: each test decides one fact of the record.
 -- Assumes nothing.
 use borrow.Author.Needs.{needs}
-use Rattle.laws.specs.SaysLaws.{granted, refused}
+use Rattle.laws.proofs.SaysLaws.{granted, refused}
 use Rattle.terms.proofs.frame_in_range.Statement.{statement}
 use Rattle.terms.proofs.frame_in_range.Tie as tie
 

@@ -5,8 +5,8 @@ use borrow.Author.Needs.{needs}
 use borrow.Author.Tests.{eqb-true, eqb-false}
 use Prim.Native.Nat.{_%_}
 use lib.Dec.{eqb}
-use Rattle.laws.specs.SaysLaws.{says}
-use Rattle.terms.specs.RepetitionLaws.{repetition-positive}
+use Rattle.laws.proofs.SaysLaws.{says}
+use Rattle.terms.proofs.RepetitionLaws.{repetition-positive}
 use Rattle.terms.proofs.Seven.{divisor, repetition-divides}
 use Rattle.terms.proofs.is_repetition.Statement.{statement}
 use Rattle.terms.proofs.is_repetition.Tie as tie

@@ -2,8 +2,8 @@
 -- Assumes nothing.
 use native.Mathlib.Omega.{arith}
 use borrow.Author.Needs.{needs}
-use Rattle.laws.specs.SaysLaws.{granted, refused}
-use Rattle.terms.specs.RangesLaws.{settings-granted, settings-refused}
+use Rattle.laws.proofs.SaysLaws.{granted, refused}
+use Rattle.terms.proofs.RangesLaws.{settings-granted, settings-refused}
 use Rattle.terms.proofs.valid.Statement.{statement}
 use Rattle.terms.proofs.valid.Tie as tie
 

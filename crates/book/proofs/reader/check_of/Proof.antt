@@ -1,31 +1,29 @@
--- `book::reader::check_of` meets its contract. The loop's invariant: the sum, from 1 on and kept to 32 bits, is that of the words passed.
-use mathlib.Core.Path.{ap, _∙_, _≡_}
+-- `book::reader::check_of` meets its contract. The loop's invariant: the sum, from 1 on and kept to 32 bits, is that of
+-- the words passed.
+-- Assumes nothing.
+use mathlib.Core.Path.{_≡_, ap, _∙_}
 use Prim.Native.Nat.{ℕ, _+_, _-_, _%_, _^_, _≤_}
 use native.Mathlib.Omega.{arith}
 use borrow.Author.Needs.{needs}
-use Rattle.book.specs.Words.{sumUpTo, checkOf}
+use Rattle.laws.specs.Sums.{sum}
+use Rattle.laws.proofs.SumLaws.{sum-none}
+use Rattle.book.specs.Words.{checkOf}
 use Rattle.book.specs.Reading.{inBlock}
-use Rattle.book.proofs.RunLaws.{sum-none, sum-kept}
+use Rattle.book.proofs.RunLaws.{sum-kept}
 use Rattle.book.proofs.reader.check_of.Statement.{statement}
 use Rattle.book.proofs.reader.check_of.Tie as tie
 
 abbrev Inv-loop : tie.InvT-loop
-Inv-loop book k sum₀ w₀ sum w = (w ≤ 127) × (sum ≡ (sumUpTo (inBlock book k) w + 1) % 2 ^ 32)
+Inv-loop book k check₀ w₀ check w = (w ≤ 127) × (check ≡ (sum (inBlock book k) w + 1) % 2 ^ 32)
 
 abbrev μ-loop : tie.MeasureT-loop
-μ-loop book k sum₀ w₀ sum w = 127 - w
+μ-loop book k check₀ w₀ check w = 127 - w
 
 loop-holds : tie.Need-loop-holds Inv-loop μ-loop
 loop-holds c = (omega arith, omega (arith, sum-none (inBlock (c .before .args .book .now) (c .before .args .k))))
 
-mul-word : tie.Need-mul-word Inv-loop μ-loop
-mul-word c = search needs
-
-add-word : tie.Need-add-word Inv-loop μ-loop
-add-word c = search needs
-
-word-requires : tie.Need-word-requires Inv-loop μ-loop
-word-requires c κs = search needs
+in-block-requires : tie.Need-in-block-requires Inv-loop μ-loop
+in-block-requires c κs = search needs
 
 wrapping-add-u32-requires : tie.Need-wrapping-add-u32-requires Inv-loop μ-loop
 wrapping-add-u32-requires c κs = search needs
@@ -38,20 +36,19 @@ loop-less c = search needs
 
 loop-again : tie.Need-loop-again Inv-loop μ-loop
 loop-again c =
-    let start = c .before .before .before .before .before in
-    let head = c .before .before .before .loop in (
-      omega arith,
-      c .wrapping-add-u32 .ensures
-          ∙ sum-kept (inBlock (start .args .book .now) (start .args .k)) (head .w) (head .sum) (c .before .word .result) (head .inv .1) (c .before .word .ensures),
-    )
+    let start = c .before .before .before .before .before .args in
+    let head = c .before .before .before .loop in
+    let word = inBlock (start .book .now) (start .k) in
+    let more = sum-kept word (head .w) _ _ (head .inv .1) (c .before .in-block .ensures) in
+    (omega arith, c .wrapping-add-u32 .ensures ∙ more)
 
 returns : tie.Need-returns Inv-loop μ-loop
 unfolding checkOf
 returns c =
-    let start = c .before .before .before in
+    let start = c .before .before .before .args in
     let head = c .before .loop in
     let past : head .w ≡ 127 = omega arith in
-    head .inv .1 ∙ ap (λ (n : ℕ). (sumUpTo (inBlock (start .args .book .now) (start .args .k)) n + 1) % 2 ^ 32) past
+    head .inv .1 ∙ ap (λ (n : ℕ). (sum (inBlock (start .book .now) (start .k)) n + 1) % 2 ^ 32) past
 
 pub check-of-spec : {M : Type 1} → statement M
 check-of-spec =
@@ -60,9 +57,7 @@ check-of-spec =
     Inv-loop
     μ-loop
     loop-holds
-    mul-word
-    add-word
-    word-requires
+    in-block-requires
     wrapping-add-u32-requires
     add-w
     loop-less

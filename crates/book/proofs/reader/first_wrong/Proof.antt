@@ -1,24 +1,32 @@
--- `book::reader::first_wrong` meets its contract. The loop's invariant: every block before block k passes the test.
-use mathlib.Core.Path.{_≡_, sym, _∙_}
-use mathlib.Core.Bool.{true}
-use Prim.Native.Nat.{ℕ, _-_, _≤_, _<_}
+-- `book::reader::first_wrong` meets its contract. The loop's invariant: every block before the i-th passes the test.
+-- Assumes nothing.
+use Prim.Native.Nat.{_+_, _-_}
 use native.Mathlib.Omega.{arith}
 use borrow.Author.Needs.{needs}
-use borrow.Author.Count.{below-none, below-more}
-use borrow.Author.Tests.{not-true, not-false}
-use Rattle.book.specs.Reading.{blocksIn, right}
-use Rattle.book.proofs.TestLaws.{wrong-is}
+use Rattle.laws.proofs.SaysLaws.{granted, refused}
+use Rattle.laws.proofs.LowestLaws.{Reached, reached-first, reached-next, none-without, stops}
+use Rattle.book.specs.Reading.{blocksIn}
+use Rattle.book.specs.Private.{Passes}
 use Rattle.book.proofs.reader.first_wrong.Statement.{statement}
 use Rattle.book.proofs.reader.first_wrong.Tie as tie
 
 abbrev Inv-loop : tie.InvT-loop
-Inv-loop book t blocks k₀ k = (k ≤ blocks) × ((i : ℕ) → i < k → right book t i ≡ true)
+Inv-loop book t blocks i₀ i = Reached (blocksIn book) (λ j. Passes book t (j - 1)) i
 
 abbrev μ-loop : tie.MeasureT-loop
-μ-loop book t blocks k₀ k = blocks - k
+μ-loop book t blocks i₀ i = blocks + 1 - i
+
+cast-blocks : tie.Need-cast-blocks Inv-loop μ-loop
+cast-blocks c = search needs
 
 loop-holds : tie.Need-loop-holds Inv-loop μ-loop
-loop-holds c = (omega arith, below-none _)
+loop-holds c = reached-first _ _
+
+sub-passes : tie.Need-sub-passes Inv-loop μ-loop
+sub-passes c = search needs
+
+cast-passes : tie.Need-cast-passes Inv-loop μ-loop
+cast-passes c = search needs
 
 passes-requires : tie.Need-passes-requires Inv-loop μ-loop
 passes-requires c κs = search needs
@@ -26,10 +34,11 @@ passes-requires c κs = search needs
 returns : tie.Need-returns Inv-loop μ-loop
 returns c =
     let head = c .before .before .before .loop in
-    wrong-is _ _ (head .k) (head .inv .0) (head .inv .1) (λ _. sym (c .before .passes .ensures) ∙ not-true _ (c .if1 .taken))
+    let test = c .before .passes in
+    stops _ _ (head .i) (head .inv) (omega arith) (refused (test .result) (test .ensures) (c .if1 .taken))
 
-add-k : tie.Need-add-k Inv-loop μ-loop
-add-k c = search needs
+add-i : tie.Need-add-i Inv-loop μ-loop
+add-i c = search needs
 
 loop-less : tie.Need-loop-less Inv-loop μ-loop
 loop-less c = search needs
@@ -37,13 +46,11 @@ loop-less c = search needs
 loop-again : tie.Need-loop-again Inv-loop μ-loop
 loop-again c =
     let head = c .before .before .before .loop in
-    (omega arith, below-more _ _ (head .inv .1) (sym (c .before .passes .ensures) ∙ not-false _ (c .if1 .left)))
+    let test = c .before .passes in
+    reached-next _ _ (head .i) (head .inv) (omega arith) (granted (test .result) (test .ensures) (c .if1 .left))
 
 returns-2 : tie.Need-returns-2 Inv-loop μ-loop
-returns-2 c =
-    let head = c .before .loop in
-    let past : head .k ≡ blocksIn (c .before .before .before .args .book .now) = omega arith in
-    sym past ∙ wrong-is _ _ (head .k) (head .inv .0) (head .inv .1) (λ h. absurd (omega arith))
+returns-2 c = none-without _ _ (c .before .loop .i) (c .before .loop .inv) (omega arith)
 
 pub first-wrong-spec : {M : Type 1} → statement M
 first-wrong-spec =
@@ -51,10 +58,13 @@ first-wrong-spec =
     (tie.spec
     Inv-loop
     μ-loop
+    cast-blocks
     loop-holds
+    sub-passes
+    cast-passes
     passes-requires
     returns
-    add-k
+    add-i
     loop-less
     loop-again
     returns-2)

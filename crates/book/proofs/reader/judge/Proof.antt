@@ -1,110 +1,105 @@
--- `book::reader::judge` meets its contract: at each return the tests before it were passed and its own decides, in the order 1 to 5.
--- A block found is at most the block count, so it fits a word.
-use mathlib.Core.Path.{_≡_, sym, ap, _∙_}
-use mathlib.Core.Bool.{true}
-use Prim.Native.Nat.{_≤_}
+-- `book::reader::judge` meets its contract: at each return the rows before it hold and its own does not, in order.
+-- Assumes nothing.
+use mathlib.Core.Path.{refl}
+use mathlib.Core.List.{List}
+use mathlib.Core.Logic.{inl, inr}
+use Prim.Native.Nat.{ℕ}
 use native.Mathlib.Omega.{arith}
-use borrow.Author.Tests.{not-true, not-false}
 use borrow.Author.Needs.{needs}
-use Rattle.terms.specs.declared.Answer.the-variants.{Done, Check, Kind, Zero}
-use Rattle.book.specs.declared.Test.{Test}
-use Rattle.book.specs.Reading.{blocksIn, passes, lengthRight, judged}
-use Rattle.book.proofs.TestLaws.{wrong-most, passed, failed}
-use Rattle.book.proofs.SoundLaws.{length-facts}
+use Rattle.laws.proofs.SaysLaws.{granted, refused}
+use Rattle.laws.proofs.LowestLaws.{none-each}
+use Rattle.book.specs.Reading.{LengthRight, CheckRight, KindRight, CountRight, EachBlock}
+use Rattle.book.proofs.BlockLaws.{found}
 use Rattle.book.proofs.reader.judge.Statement.{statement}
 use Rattle.book.proofs.reader.judge.Tie as tie
 
--- what the tests told on the way
-whole : (c : tie.Else1) → lengthRight (c .before .before .before .args .book .now) ≡ true
-whole c = sym (c .before .length-right .ensures) ∙ not-false _ (c .if1 .left)
+-- what each test that was passed told
+abbrev Each : (List ℕ → ℕ → Type 0) → List ℕ → Type 0
+Each P b = EachBlock b (P b)
 
-at-most : (c : tie.Else1) → blocksIn (c .before .before .before .args .book .now) ≤ 26
-at-most c = length-facts _ (whole c) .2
+whole : (c : tie.Else1) → LengthRight (c .before .before .before .args .book .now)
+whole c = let test = c .before .length-right in granted (test .result) (test .ensures) (c .if1 .left)
 
-checked : (c : tie.Else2) → passes (c .before .before .before .before .before .args .book .now) Test.Check ≡ true
-checked c = passed _ _ _ (c .before .first-wrong .ensures) (c .if2 .left)
+checks : (c : tie.Else2) → Each CheckRight (c .before .before .before .before .before .args .book .now)
+checks c = none-each _ _ _ (c .before .first-wrong .ensures) (c .if2 .left)
 
-kind : (c : tie.Else3) → passes (c .before .before .before .before .before .before .before .args .book .now) Test.Kind ≡ true
-kind c = passed _ _ _ (c .before .first-wrong2 .ensures) (c .if3 .left)
+kinds : (c : tie.Else3) → Each KindRight (c .before .before .before .before .before .before .before .args .book .now)
+kinds c = none-each _ _ _ (c .before .first-wrong2 .ensures) (c .if3 .left)
 
-counted : (c : tie.Else4) → passes (c .before .before .before .before .before .before .before .before .before .args .book .now) Test.Count ≡ true
-counted c = passed _ _ _ (c .before .first-wrong3 .ensures) (c .if4 .left)
-
-zero : (c : tie.Else5) → passes (c .before .before .before .before .before .before .before .before .before .before .before .args .book .now) Test.Zero ≡ true
-zero c = passed _ _ _ (c .before .first-wrong4 .ensures) (c .if5 .left)
+counts : (c : tie.Else4)
+    → Each CountRight (c .before .before .before .before .before .before .before .before .before .args .book .now)
+counts c = none-each _ _ _ (c .before .first-wrong3 .ensures) (c .if4 .left)
 
 length-right-requires : tie.Need-length-right-requires
 length-right-requires c κs = search needs
 
 returns : tie.Need-returns
-unfolding judged
-returns c = simp (sym (c .before .length-right .ensures) ∙ not-true _ (c .if1 .taken))
+returns c =
+    let test = c .before .length-right in
+    inl (refused (test .result) (test .ensures) (c .if1 .taken), refl, refl)
 
 first-wrong-requires : tie.Need-first-wrong-requires
-first-wrong-requires c κs = search needs
+first-wrong-requires c κs = whole c
 
-cast-t10 : tie.Need-cast-t10
-cast-t10 c = omega (arith, wrong-most (c .before .before .before .before .before .args .book .now) Test.Check, at-most (c .before .before))
+sub-t8 : tie.Need-sub-t8
+sub-t8 c = search needs
 
 returns-2 : tie.Need-returns-2
-unfolding judged
 returns-2 c =
-    let here = c .before .first-wrong .ensures in
-    simp (whole (c .before .before), failed _ _ _ here (c .if2 .taken)) (ap Check here)
+    let wrong = found _ _ _ (c .before .first-wrong .ensures) (c .if2 .taken) in
+    inr (whole (c .before .before), inl (wrong .0, refl, wrong .1))
 
 first-wrong-requires-2 : tie.Need-first-wrong-requires-2
-first-wrong-requires-2 c κs = search needs
+first-wrong-requires-2 c κs = whole (c .before .before)
 
-cast-t11 : tie.Need-cast-t11
-cast-t11 c = omega (arith, wrong-most (c .before .before .before .before .before .before .before .args .book .now) Test.Kind, at-most (c .before .before .before .before))
+sub-t9 : tie.Need-sub-t9
+sub-t9 c = search needs
 
 returns-3 : tie.Need-returns-3
-unfolding judged
 returns-3 c =
-    let at-check = c .before .before in
-    let here = c .before .first-wrong2 .ensures in
-    simp (whole (at-check .before .before), checked at-check, failed _ _ _ here (c .if3 .taken)) (ap Kind here)
+    let wrong = found _ _ _ (c .before .first-wrong2 .ensures) (c .if3 .taken) in
+    let past2 = c .before .before in
+    inr (whole (past2 .before .before), inr (checks past2, inl (wrong .0, refl, wrong .1)))
 
 first-wrong-requires-3 : tie.Need-first-wrong-requires-3
-first-wrong-requires-3 c κs = search needs
+first-wrong-requires-3 c κs = whole (c .before .before .before .before)
 
 returns-4 : tie.Need-returns-4
-unfolding judged
 returns-4 c =
-    let at-kind = c .before .before in
-    let at-check = at-kind .before .before in
-    let here = c .before .first-wrong3 .ensures in
-    simp (whole (at-check .before .before), checked at-check, kind at-kind, failed _ _ _ here (c .if4 .taken))
+    let wrong = found _ _ _ (c .before .first-wrong3 .ensures) (c .if4 .taken) in
+    let past3 = c .before .before in
+    let past2 = past3 .before .before in
+    inr (whole (past2 .before .before), inr (checks past2, inr (kinds past3, inl (wrong .0, refl, refl))))
 
 first-wrong-requires-4 : tie.Need-first-wrong-requires-4
-first-wrong-requires-4 c κs = search needs
+first-wrong-requires-4 c κs = whole (c .before .before .before .before .before .before)
 
-cast-t12 : tie.Need-cast-t12
-cast-t12 c = omega (arith, wrong-most (c .before .before .before .before .before .before .before .before .before .before .before .args .book .now) Test.Zero, at-most (c .before .before .before .before .before .before .before .before))
+sub-t11 : tie.Need-sub-t11
+sub-t11 c = search needs
 
 returns-5 : tie.Need-returns-5
-unfolding judged
 returns-5 c =
-    let at-count = c .before .before in
-    let at-kind = at-count .before .before in
-    let at-check = at-kind .before .before in
-    let here = c .before .first-wrong4 .ensures in
-    simp (whole (at-check .before .before), checked at-check, kind at-kind, counted at-count, failed _ _ _ here (c .if5 .taken))
-    (ap Zero here)
+    let wrong = found _ _ _ (c .before .first-wrong4 .ensures) (c .if5 .taken) in
+    let past4 = c .before .before in
+    let past3 = past4 .before .before in
+    let past2 = past3 .before .before in
+    let past1 = past2 .before .before in
+    inr (whole past1, inr (checks past2, inr (kinds past3, inr (counts past4, inl (wrong .0, refl, wrong .1)))))
 
-word-requires : tie.Need-word-requires
-word-requires c κs =
-    let length-is = length-facts (c .before .before .before .before .before .before .before .before .before .before .before .args .book .now) (whole (c .before .before .before .before .before .before .before .before)) in
-    omega (arith, length-is .0, length-is .1)
+in-block-requires : tie.Need-in-block-requires
+in-block-requires c κs =
+    let right = whole (c .before .before .before .before .before .before .before .before) in
+    omega (arith, right .some, right .whole)
 
 returns-6 : tie.Need-returns-6
-unfolding judged
 returns-6 c =
-    let at-zero = c .before in
-    let at-count = at-zero .before .before in
-    let at-kind = at-count .before .before in
-    let at-check = at-kind .before .before in
-    simp (whole (at-check .before .before), checked at-check, kind at-kind, counted at-count, zero at-zero) (ap Done (c .word .ensures))
+    let past4 = c .before .before .before in
+    let past3 = past4 .before .before in
+    let past2 = past3 .before .before in
+    let zeros = none-each _ _ _ (c .before .before .first-wrong4 .ensures) (c .before .if5 .left) in
+    let past1 = past2 .before .before in
+    let signals = c .in-block .ensures in
+    inr (whole past1, inr (checks past2, inr (kinds past3, inr (counts past4, inr (zeros, (refl, signals))))))
 
 pub judge-spec : {M : Type 1} → statement M
 judge-spec =
@@ -113,15 +108,15 @@ judge-spec =
     length-right-requires
     returns
     first-wrong-requires
-    cast-t10
+    sub-t8
     returns-2
     first-wrong-requires-2
-    cast-t11
+    sub-t9
     returns-3
     first-wrong-requires-3
     returns-4
     first-wrong-requires-4
-    cast-t12
+    sub-t11
     returns-5
-    word-requires
+    in-block-requires
     returns-6)

@@ -1,32 +1,25 @@
 -- `book::reader::passes` meets its contract: each arm is the test that its variant names.
-use mathlib.Core.Path.{_≡_, sym, ap, _∙_}
+-- Assumes nothing.
+use mathlib.Core.Path.{_≡_, sym, subst}
+use mathlib.Core.Bool.{Bool}
 use mathlib.Core.List.{List}
 use Prim.Native.Nat.{ℕ}
-use lib.Dec.{eqb}
 use borrow.Author.Needs.{needs}
-use Rattle.book.specs.declared.Test.{Test}
-use Rattle.book.specs.Reading.{right}
+use Rattle.laws.specs.Says.{Says}
+use Rattle.book.specs.declared.reader.Test.{Test}
+use Rattle.book.specs.Private.{Passes}
 use Rattle.book.proofs.reader.passes.Statement.{statement}
 use Rattle.book.proofs.reader.passes.Tie as tie
 
 -- the test that the arm names
-told : (b : List ℕ) (k : ℕ) {t u : Test} → t ≡ u → right b t k ≡ right b u k
-told b k e = ap (λ (t : Test). right b t k) e
+named : (b : List ℕ) (k : ℕ) (flag : Bool) {t u : Test} → t ≡ u → Says (Passes b u k) flag → Says (Passes b t k) flag
+named b k flag e s = subst (λ (t : Test). Says (Passes b t k) flag) (sym e) s
 
 enum-told : tie.Need-enum-told
 enum-told c = search needs
 
-mul-word : tie.Need-mul-word
-mul-word c = search needs
-
-add-word : tie.Need-add-word
-add-word c = search needs
-
-word-requires : tie.Need-word-requires
-word-requires c κs = search needs
-
-check-of-requires : tie.Need-check-of-requires
-check-of-requires c κs = search needs
+check-requires : tie.Need-check-requires
+check-requires c κs = search needs
 
 enum-told-2 : tie.Need-enum-told-2
 enum-told-2 c = search needs
@@ -47,35 +40,23 @@ zeros-requires : tie.Need-zeros-requires
 zeros-requires c κs = search needs
 
 returns : tie.Need-returns
-unfolding right
-returns c =
-    let args = c .before .before .before .before .before .args in
-    (λ i. eqb (c .before .word .ensures i) (c .check-of .ensures i)) ∙ sym (told (args .book .now) (args .k) (c .before .before .enum-told .given .1))
+returns c = named _ _ (c .check .result) (c .before .enum-told .given .1) (c .check .ensures)
 
 returns-2 : tie.Need-returns-2
-returns-2 c =
-    let args = c .before .before .before .before .args in
-    c .number-and-kind .ensures ∙ sym (told (args .book .now) (args .k) (c .before .enum-told2 .given .1))
+returns-2 c = named _ _ (c .number-and-kind .result) (c .before .enum-told2 .given .1) (c .number-and-kind .ensures)
 
 returns-3 : tie.Need-returns-3
-returns-3 c =
-    let args = c .before .before .before .before .args in
-    c .count .ensures ∙ sym (told (args .book .now) (args .k) (c .before .enum-told3 .given .1))
+returns-3 c = named _ _ (c .count .result) (c .before .enum-told3 .given .1) (c .count .ensures)
 
 returns-4 : tie.Need-returns-4
-returns-4 c =
-    let args = c .before .before .before .before .args in
-    c .zeros .ensures ∙ sym (told (args .book .now) (args .k) (c .before .enum-told4 .given .1))
+returns-4 c = named _ _ (c .zeros .result) (c .before .enum-told4 .given .1) (c .zeros .ensures)
 
 pub passes-spec : {M : Type 1} → statement M
 passes-spec =
     tie.close
     (tie.spec
     enum-told
-    mul-word
-    add-word
-    word-requires
-    check-of-requires
+    check-requires
     enum-told-2
     number-and-kind-requires
     enum-told-3

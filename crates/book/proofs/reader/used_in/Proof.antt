@@ -1,13 +1,17 @@
--- `book::reader::used_in` meets its contract: 8 words of the settings block, and of a signal block 3 and five for each of its signals.
-use mathlib.Core.Path.{ap}
+-- `book::reader::used_in` meets its contract: 8 words of the settings block, of a later one 3 and those of its signals.
+-- Assumes nothing.
+use mathlib.Core.Path.{_≡_, refl, ap, _∙_}
 use Prim.Native.Nat.{ℕ, _+_, _*_}
-use borrow.Author.Tests.{eq-eqb, ne-eqb}
 use borrow.Author.Needs.{needs}
+use Rattle.terms.specs.Lists.{signalSize}
+use Rattle.book.specs.Blocks.{signalsIn}
+use Rattle.book.specs.Reading.{usedIn}
+use Rattle.book.proofs.BlockLaws.{later}
 use Rattle.book.proofs.reader.used_in.Statement.{statement}
 use Rattle.book.proofs.reader.used_in.Tie as tie
 
 returns : tie.Need-returns
-returns c = simp (eq-eqb _ _ (c .if1 .taken))
+returns c = search needs
 
 signals-in-requires : tie.Need-signals-in-requires
 signals-in-requires c κs = search needs
@@ -19,7 +23,10 @@ add-result : tie.Need-add-result
 add-result c = search needs
 
 returns-2 : tie.Need-returns-2
-returns-2 c = simp (ne-eqb _ _ (c .before .if1 .left)) (ap (λ (x : ℕ). 3 + 5 * x) (c .signals-in .ensures))
+returns-2 c =
+    let m = c .before .before .args .m in
+    ap (λ (n : ℕ). 3 + signalSize * n) (c .signals-in .ensures)
+    ∙ later (λ (k : ℕ). 3 + signalSize * signalsIn m k ≡ usedIn m k) (λ k. refl) _ (c .before .if1 .left)
 
 pub used-in-spec : {M : Type 1} → statement M
 used-in-spec = tie.close (tie.spec returns signals-in-requires mul-result add-result returns-2)

@@ -1,44 +1,21 @@
--- `book::words::word` meets its contract: the four bytes with their weights are the word, and the sum fits since each byte is below 256.
+-- `book::words::word` meets its contract: four bytes with their weights are the word, and fit, for each is below 256.
+-- Assumes nothing.
 use borrow.Author.Needs.{needs}
 use Rattle.book.specs.Words.{wordAt}
 use Rattle.book.proofs.words.word.Statement.{statement}
 use Rattle.book.proofs.words.word.Tie as tie
 
-mul-at : tie.Need-mul-at
-mul-at c = search needs
+byte-requires : tie.Need-byte-requires
+byte-requires c κs = search needs
 
-shared-slice-read-wide : tie.Need-shared-slice-read-wide
-shared-slice-read-wide c = search needs
+byte-requires-2 : tie.Need-byte-requires-2
+byte-requires-2 c κs = search needs
 
-wide-requires : tie.Need-wide-requires
-wide-requires c κs = search needs
+byte-requires-3 : tie.Need-byte-requires-3
+byte-requires-3 c κs = search needs
 
-add-wide : tie.Need-add-wide
-add-wide c = search needs
-
-shared-slice-read-wide-2 : tie.Need-shared-slice-read-wide-2
-shared-slice-read-wide-2 c = search needs
-
-wide-requires-2 : tie.Need-wide-requires-2
-wide-requires-2 c κs = search needs
-
-add-wide-2 : tie.Need-add-wide-2
-add-wide-2 c = search needs
-
-shared-slice-read-wide-3 : tie.Need-shared-slice-read-wide-3
-shared-slice-read-wide-3 c = search needs
-
-wide-requires-3 : tie.Need-wide-requires-3
-wide-requires-3 c κs = search needs
-
-add-wide-3 : tie.Need-add-wide-3
-add-wide-3 c = search needs
-
-shared-slice-read-wide-4 : tie.Need-shared-slice-read-wide-4
-shared-slice-read-wide-4 c = search needs
-
-wide-requires-4 : tie.Need-wide-requires-4
-wide-requires-4 c κs = search needs
+byte-requires-4 : tie.Need-byte-requires-4
+byte-requires-4 c κs = search needs
 
 mul-result : tie.Need-mul-result
 mul-result c = search needs
@@ -66,18 +43,10 @@ pub word-spec : {M : Type 1} → statement M
 word-spec =
     tie.close
     (tie.spec
-    mul-at
-    shared-slice-read-wide
-    wide-requires
-    add-wide
-    shared-slice-read-wide-2
-    wide-requires-2
-    add-wide-2
-    shared-slice-read-wide-3
-    wide-requires-3
-    add-wide-3
-    shared-slice-read-wide-4
-    wide-requires-4
+    byte-requires
+    byte-requires-2
+    byte-requires-3
+    byte-requires-4
     mul-result
     add-result
     mul-result-2

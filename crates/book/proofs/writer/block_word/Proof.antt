@@ -1,9 +1,11 @@
 -- `book::writer::block_word` meets its contract: word 127 is the check, every other one the body's.
+-- Assumes nothing.
 use mathlib.Core.Path.{ap, _∙_}
 use Prim.Native.Nat.{ℕ, _+_, _%_, _^_}
 use borrow.Author.Tests.{eq-eqb, ne-eqb}
 use borrow.Author.Needs.{needs}
-use Rattle.book.specs.Words.{sumUpTo, checkOf}
+use Rattle.laws.specs.Sums.{sum}
+use Rattle.book.specs.Words.{checkOf}
 use Rattle.book.specs.Blocks.{bodyWord, blockWord}
 use Rattle.book.proofs.writer.block_word.Statement.{statement}
 use Rattle.book.proofs.writer.block_word.Tie as tie
@@ -11,10 +13,10 @@ use Rattle.book.proofs.writer.block_word.Tie as tie
 returns : tie.Need-returns
 unfolding blockWord checkOf
 returns c =
-    let start = c .before .before in
+    let args = c .before .before .args in
+    let body = bodyWord (args .s) (args .list .now) (args .k) in
     simp (eq-eqb _ _ (c .if1 .taken))
-    (start .pre .2
-    ∙ ap (λ (w : ℕ). (sumUpTo (bodyWord (start .args .s) (start .args .list .now) (start .args .k)) w + 1) % 2 ^ 32) (c .if1 .taken))
+    (c .before .before .pre .2 ∙ ap (λ (w : ℕ). (sum body w + 1) % 2 ^ 32) (c .if1 .taken))
 
 body-word-requires : tie.Need-body-word-requires
 body-word-requires c κs = search needs

@@ -1,9 +1,29 @@
--- `book::writer::body_word` meets its contract: block 0 is the settings block, every later one a signal block.
-use borrow.Author.Tests.{eq-eqb, ne-eqb}
+-- `book::writer::body_word` meets its contract: number, kind, then in block 0 the settings, in a later one its signals.
+-- Assumes nothing.
+use mathlib.Core.Path.{_≡_, refl, sym, ap, _∙_}
+use Prim.Native.Nat.{ℕ, _-_}
+use native.Mathlib.Omega.{arith}
+use lib.ListN.{getD}
 use borrow.Author.Needs.{needs}
-use Rattle.book.specs.Blocks.{bodyWord}
+use Rattle.book.specs.Blocks.{settingsWords, signalWords, contentOf}
+use Rattle.book.proofs.BlockLaws.{later, body-content}
 use Rattle.book.proofs.writer.body_word.Statement.{statement}
 use Rattle.book.proofs.writer.body_word.Tie as tie
+
+cast-result : tie.Need-cast-result
+cast-result c = search needs
+
+returns : tie.Need-returns
+returns c = search needs
+
+kind-of-requires : tie.Need-kind-of-requires
+kind-of-requires c κs = search needs
+
+returns-2 : tie.Need-returns-2
+returns-2 c = search needs
+
+count-requires : tie.Need-count-requires
+count-requires c κs = search needs
 
 cast-settings-word : tie.Need-cast-settings-word
 cast-settings-word c = search needs
@@ -11,18 +31,40 @@ cast-settings-word c = search needs
 settings-word-requires : tie.Need-settings-word-requires
 settings-word-requires c κs = search needs
 
-returns : tie.Need-returns
-unfolding bodyWord
-returns c = simp (eq-eqb _ _ (c .before .if1 .taken)) (c .settings-word .ensures)
+returns-3 : tie.Need-returns-3
+returns-3 c =
+    let args = c .before .before .before .before .before .before .args in
+    let l = args .list .now in
+    let d = args .w - 2 in
+    c .settings-word .ensures
+    ∙ ap (λ (m : ℕ). getD (settingsWords (args .s) m) d 0) (c .before .count .ensures)
+    ∙ ap (λ (k : ℕ). getD (contentOf (args .s) l k) d 0) (sym (c .before .before .if3 .taken))
+    ∙ body-content (args .s) l (args .k) (args .w) (omega arith)
 
 signal-word-requires : tie.Need-signal-word-requires
 signal-word-requires c κs = search needs
 
-returns-2 : tie.Need-returns-2
-unfolding bodyWord
-returns-2 c = simp (ne-eqb _ _ (c .before .if1 .left)) (c .signal-word .ensures)
+returns-4 : tie.Need-returns-4
+returns-4 c =
+    let args = c .before .before .before .before .before .args in
+    let l = args .list .now in
+    let d = args .w - 2 in
+    c .signal-word .ensures
+    ∙ later (λ (k : ℕ). getD (signalWords l k) d 0 ≡ getD (contentOf (args .s) l k) d 0) (λ k. refl) _
+    (c .before .if3 .left)
+    ∙ body-content (args .s) l (args .k) (args .w) (omega arith)
 
 pub body-word-spec : {M : Type 1} → statement M
 body-word-spec =
     tie.close
-    (tie.spec cast-settings-word settings-word-requires returns signal-word-requires returns-2)
+    (tie.spec
+    cast-result
+    returns
+    kind-of-requires
+    returns-2
+    count-requires
+    cast-settings-word
+    settings-word-requires
+    returns-3
+    signal-word-requires
+    returns-4)

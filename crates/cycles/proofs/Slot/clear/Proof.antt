@@ -39,7 +39,7 @@ use denote.Triple.Clauses.{ensured, lasts}
 use denote.Triple.Table.{entered, cited}
 use denote.Triple.Walked.{says, Stays, stay-ref, stay-none, walkOf, AllGo, goes-none, goes-ref, Walks, ends-at, walked, walk-meets}
 use denote.Exit.{yes}
-use Rattle.laws.specs.LentLaws.{clause}
+use Rattle.laws.proofs.LentLaws.{clause}
 use Rattle.cycles.specs.declared.Slot.{Slot}
 use Rattle.cycles.specs.Slots.{Taken}
 use Rattle.cycles.proofs.Slot as T

@@ -2,7 +2,7 @@
 -- Assumes nothing.
 use native.Mathlib.Omega.{arith}
 use lib.Count.{trailing-le}
-use Rattle.cycles.specs.BitLaws.{bit-before, bit-at}
+use Rattle.cycles.proofs.BitLaws.{bit-before, bit-at}
 use Rattle.cycles.proofs.Slot.first_free.Statement.{statement}
 use Rattle.cycles.proofs.Slot.first_free.Tie as tie
 

@@ -3,7 +3,7 @@
 use mathlib.Core.Path.{refl}
 use native.Mathlib.Omega.{arith}
 use lib.Dec.{lit<}
-use Rattle.cycles.specs.BitLaws.{bit-not, bit-none}
+use Rattle.cycles.proofs.BitLaws.{bit-not, bit-none}
 use Rattle.cycles.proofs.Slot.fresh.Statement.{statement}
 use Rattle.cycles.proofs.Slot.fresh.Tie as tie
 

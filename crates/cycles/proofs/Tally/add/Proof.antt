@@ -3,10 +3,10 @@
 use native.Mathlib.Nat.{div-le-self}
 use native.Mathlib.Omega.{arith}
 use borrow.Author.Needs.{needs}
-use Rattle.laws.specs.SaysLaws.{granted, refused}
+use Rattle.laws.proofs.SaysLaws.{granted, refused}
 use Rattle.terms.specs.Ranges.{Repetition}
 use Rattle.cycles.specs.Loads.Tallied.{added, past, other}
-use Rattle.cycles.specs.FrameLaws.{repetition-least}
+use Rattle.cycles.proofs.FrameLaws.{repetition-least}
 use Rattle.cycles.proofs.Tally.add.Statement.{statement}
 use Rattle.cycles.proofs.Tally.add.Tie as tie
 

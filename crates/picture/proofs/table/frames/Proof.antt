@@ -5,10 +5,10 @@ use Rattle.picture.proofs.table.frames.Statement.{statement}
 use Rattle.picture.proofs.table.frames.Tie as tie
 
 abbrev Inv-loop : tie.InvT-loop
-Inv-loop list cells results signals ranks i₀ t8 i = i ≤ signals
+Inv-loop list cells results signals ranks signal₀ t8 signal = signal ≤ signals
 
 abbrev μ-loop : tie.MeasureT-loop
-μ-loop list cells results signals ranks i₀ t8 i = signals - i
+μ-loop list cells results signals ranks signal₀ t8 signal = signals - signal
 
 slice-aggregate-text : tie.Need-slice-aggregate-text Inv-loop μ-loop
 slice-aggregate-text c = search needs
@@ -19,11 +19,11 @@ text-requires c κs = search needs
 loop-holds : tie.Need-loop-holds Inv-loop μ-loop
 loop-holds c = search needs
 
+add-signal : tie.Need-add-signal Inv-loop μ-loop
+add-signal c = search needs
+
 frame-requires : tie.Need-frame-requires Inv-loop μ-loop
 frame-requires c κs = search needs
-
-add-i : tie.Need-add-i Inv-loop μ-loop
-add-i c = search needs
 
 loop-less : tie.Need-loop-less Inv-loop μ-loop
 loop-less c = search needs
@@ -49,8 +49,8 @@ frames-spec =
     slice-aggregate-text
     text-requires
     loop-holds
+    add-signal
     frame-requires
-    add-i
     loop-less
     loop-again
     slice-aggregate-text-2

@@ -1,35 +1,28 @@
 -- `picture::units::share_of` is safe and ends: a loop over the signals; no more are counted than were passed.
 -- Assumes nothing.
 use Prim.Native.Nat.{_-_, _≤_}
-use native.Mathlib.Omega.{arith}
-use mathlib.Core.Logic.{⊎-elim}
 use borrow.Author.Needs.{needs}
 use Rattle.picture.proofs.units.share_of.Statement.{statement}
 use Rattle.picture.proofs.units.share_of.Tie as tie
 
 abbrev Inv-loop : tie.InvT-loop
-Inv-loop list results signals unit count₀ first₀ last₀ i₀ count first last i = (i ≤ signals) × (count ≤ i)
+Inv-loop list results signals unit count₀ first₀ last₀ signal₀ count first last signal =
+    (signal ≤ signals) × (count ≤ signal)
 
 abbrev μ-loop : tie.MeasureT-loop
-μ-loop list results signals unit count₀ first₀ last₀ i₀ count first last i = signals - i
+μ-loop list results signals unit count₀ first₀ last₀ signal₀ count first last signal = signals - signal
 
 loop-holds : tie.Need-loop-holds Inv-loop μ-loop
 loop-holds c = search needs
 
-cast-at : tie.Need-cast-at Inv-loop μ-loop
-cast-at c = search needs
+add-signal : tie.Need-add-signal Inv-loop μ-loop
+add-signal c = search needs
 
-mul-word : tie.Need-mul-word Inv-loop μ-loop
-mul-word c = search needs
+signal-at-requires : tie.Need-signal-at-requires Inv-loop μ-loop
+signal-at-requires c κs = search needs
 
-word-requires : tie.Need-word-requires Inv-loop μ-loop
-word-requires c κs = search needs
-
-mul-word-2 : tie.Need-mul-word-2 Inv-loop μ-loop
-mul-word-2 c = search needs
-
-word-requires-2 : tie.Need-word-requires-2 Inv-loop μ-loop
-word-requires-2 c κs = search needs
+result-word-requires : tie.Need-result-word-requires Inv-loop μ-loop
+result-word-requires c κs = search needs
 
 lower-requires : tie.Need-lower-requires Inv-loop μ-loop
 lower-requires c κs = search needs
@@ -40,14 +33,17 @@ higher-requires c κs = search needs
 add-count : tie.Need-add-count Inv-loop μ-loop
 add-count c = search needs
 
-add-i : tie.Need-add-i Inv-loop μ-loop
-add-i c = search needs
-
 loop-less : tie.Need-loop-less Inv-loop μ-loop
 loop-less c = search needs
 
 loop-again : tie.Need-loop-again Inv-loop μ-loop
-loop-again c = ⊎-elim (λ w. omega arith) (λ w. omega arith) (c .if1 .came)
+loop-again c = search needs
+
+loop-less-2 : tie.Need-loop-less-2 Inv-loop μ-loop
+loop-less-2 c = search needs
+
+loop-again-2 : tie.Need-loop-again-2 Inv-loop μ-loop
+loop-again-2 c = search needs
 
 returns : tie.Need-returns Inv-loop μ-loop
 returns c = search needs
@@ -59,15 +55,14 @@ share-of-spec =
     Inv-loop
     μ-loop
     loop-holds
-    cast-at
-    mul-word
-    word-requires
-    mul-word-2
-    word-requires-2
+    add-signal
+    signal-at-requires
+    result-word-requires
     lower-requires
     higher-requires
     add-count
-    add-i
     loop-less
     loop-again
+    loop-less-2
+    loop-again-2
     returns)

@@ -1,20 +1,22 @@
 -- `planner::judge::bound_not_kept` meets its contract: a loop over the signals that keeps the repetitions found.
 -- The measure is what is left of the signals. Assumes nothing.
 use mathlib.Core.Path.{_≡_, refl, subst}
-use Prim.Native.Nat.{_+_, _*_, _-_, _≤_}
+use Prim.Native.Nat.{_+_, _-_, _≤_}
 use native.Mathlib.Omega.{arith}
 use lib.ListN.{length, length-set}
 use native.Mathlib.Nat.{pos-of-ne-zero}
 use borrow.Author.Needs.{needs}
 use Rattle.terms.specs.declared.Signal.{Signal}
 use Rattle.rule.specs.Rule.{Keeps, segment, Largest, RepetitionGiven}
-use Rattle.planner.specs.Lists.{signalAt}
-use Rattle.planner.specs.ListsLaws.{Reached, FoundIn, reached-first, found-next, found-all, found-not, within-list}
+use Rattle.laws.proofs.LowestLaws.{Reached, reached-first}
+use Rattle.terms.specs.Lists.{count, signalAt}
+use Rattle.planner.proofs.JudgedLaws.{FoundIn, found-next, found-all, found-not}
 use Rattle.planner.proofs.judge.bound_not_kept.Statement.{statement}
 use Rattle.planner.proofs.judge.bound_not_kept.Tie as tie
 
 abbrev Inv-loop : tie.InvT-loop
-Inv-loop s list m repetitions₀ i₀ repetitions i = Reached list (FoundIn s list repetitions) i × (length repetitions ≡ length repetitions₀)
+Inv-loop s list m repetitions₀ i₀ repetitions i =
+    Reached (count list) (FoundIn s list repetitions) i × (length repetitions ≡ length repetitions₀)
 
 abbrev μ-loop : tie.MeasureT-loop
 μ-loop s list m repetitions₀ i₀ repetitions i = m + 1 - i
@@ -22,11 +24,11 @@ abbrev μ-loop : tie.MeasureT-loop
 abbrev Begin : tie.At-loop Inv-loop μ-loop → tie.Start Inv-loop μ-loop
 Begin l = l .before .before .before
 
--- the words of the signal that is looked at lie within the list
-near : (c : tie.In-loop Inv-loop μ-loop) → (1 ≤ c .before .loop .i) × (5 * c .before .loop .i ≤ length (Begin (c .before) .args .list .now)) × (c .before .loop .i ≤ 600)
+-- the signal that is looked at is one of the list's, which are few
+near : (c : tie.In-loop Inv-loop μ-loop) → (1 ≤ c .before .loop .i) × (c .before .loop .i ≤ 600)
 near c =
     let l = c .before in
-    within-list (Begin l .args .list .now) (l .loop .i) (Begin l .pre .right) (l .loop .inv .0 .first) (omega (arith, Begin l .pre .counted))
+    omega (arith, Begin l .pre .count .right .few, Begin l .pre .count .counted, l .loop .inv .0 .first)
 
 -- its repetition is the largest that keeps its bound
 largest :
@@ -42,15 +44,15 @@ largest c =
     let x = signalAt (b .args .list .now) (l .loop .i) in
     subst (λ (y : Signal). RepetitionGiven (b .args .s) y (c .repetition .result)) (c .before .signal-at .ensures) (c .repetition .ensures)
     .inside
-    (record { settings = b .pre .settings; signal = b .pre .signals (l .loop .i) (l .loop .inv .0 .first, omega (arith, b .pre .counted)) })
+    (record { settings = b .pre .settings; signal = b .pre .signals (l .loop .i) (l .loop .inv .0 .first, omega (arith, b .pre .count .counted)) })
 
 loop-holds : tie.Need-loop-holds Inv-loop μ-loop
 loop-holds c =
     let a = c .before .before .args in
-    (reached-first (a .list .now) (FoundIn (a .s) (a .list .now) (a .repetitions .now)), refl)
+    (reached-first _ (FoundIn (a .s) (a .list .now) (a .repetitions .now)), refl)
 
 signal-at-requires : tie.Need-signal-at-requires Inv-loop μ-loop
-signal-at-requires c κs = near c
+signal-at-requires c κs = search needs
 
 repetition-requires : tie.Need-repetition-requires Inv-loop μ-loop
 repetition-requires c κs = search needs
@@ -62,7 +64,7 @@ returns : tie.Need-returns Inv-loop μ-loop
 returns c =
     let l = c .before .before .before .before in
     let b = Begin l in
-    found-not (b .args .s) (b .args .list .now) (l .loop .repetitions) (l .loop .i) (l .loop .inv .0) (omega (arith, b .pre .counted))
+    found-not (b .args .s) (b .args .list .now) (l .loop .repetitions) (l .loop .i) (l .loop .inv .0) (omega (arith, b .pre .count .counted))
     (subst (Largest (Keeps (b .args .s) (signalAt (b .args .list .now) (l .loop .i)) (segment (b .args .s)))) (c .if1 .taken) (largest (c .before)))
 
 cast-repetitions : tie.Need-cast-repetitions Inv-loop μ-loop
@@ -89,7 +91,7 @@ loop-again c =
     let b = Begin l in
     let close = near (c .before .before .before) in (
       found-next (b .args .s) (b .args .list .now) (l .loop .repetitions) (l .loop .i) (c .before .repetition .result)
-          (omega (arith, l .loop .inv .1, b .pre .room)) (l .loop .inv .0) (omega (arith, b .pre .counted)) (largest (c .before))
+          (omega (arith, l .loop .inv .1, b .pre .room)) (l .loop .inv .0) (omega (arith, b .pre .count .counted)) (largest (c .before))
           (pos-of-ne-zero (c .if1 .left)),
       simp length-set (l .loop .inv .1),
     )
@@ -101,7 +103,7 @@ returns-2 : tie.Need-returns-2 Inv-loop μ-loop
 returns-2 c =
     let l = c .before in
     let b = Begin l in
-    found-all (b .args .s) (b .args .list .now) (l .loop .repetitions) (l .loop .i) (l .loop .inv .0) (omega (arith, b .pre .counted))
+    found-all (b .args .s) (b .args .list .now) (l .loop .repetitions) (l .loop .i) (l .loop .inv .0) (omega (arith, b .pre .count .counted))
 
 pub bound-not-kept-spec : {M : Type 1} → statement M
 bound-not-kept-spec =

@@ -1,113 +1,109 @@
--- `planner::judge::judge` meets its contract: the questions on settings, count and room, then those on the signals.
+-- `planner::judge::judge` meets its contract: the rows of what is lent, then those of the signals.
 -- Assumes nothing.
-use mathlib.Core.Path.{refl}
-use mathlib.Core.Logic.{inl, inr}
+use mathlib.Core.Path.{_∙_, sym}
 use native.Mathlib.Omega.{arith}
-use Rattle.terms.specs.Ranges.{SettingsInRange}
-use Rattle.terms.specs.RangesLaws.{settings-granted, settings-refused}
-use Rattle.planner.specs.Lists.{CountInRange}
-use Rattle.planner.specs.JudgedLaws.{judged-all}
 use borrow.Author.Needs.{needs}
+use Rattle.laws.specs.Rows.{Hold}
+use Rattle.laws.proofs.LowestLaws.{none-each}
+use Rattle.terms.specs.Requests.{Request, request}
+use Rattle.terms.specs.Ranges.{SignalInRange}
+use Rattle.terms.specs.Lists.{EachSignal}
+use Rattle.planner.specs.Rows.{lentRows}
+use Rattle.planner.proofs.JudgedLaws.{judged-lent, lent-holds, judged-7, judged-8, judged-done}
 use Rattle.planner.proofs.judge.judge.Statement.{statement}
 use Rattle.planner.proofs.judge.judge.Tie as tie
 
-setting-out-of-range-requires : tie.Need-setting-out-of-range-requires
-setting-out-of-range-requires c κs = search needs
+abbrev Begin : tie.After-judge-lent → tie.Start
+Begin j = j .before .before .before
 
--- past the first question: the settings are in range
-abbrev Begin : tie.Else1 → tie.Start
-Begin e = e .before .before .before .before
+-- what is asked
+abbrev asked : tie.After-judge-lent → Request
+asked j = request (Begin j .args .s) (Begin j .args .list .now)
 
-settings : (e : tie.Else1) → SettingsInRange (Begin e .args .s)
-settings e =
-    let w = e .before .setting-out-of-range in
-    settings-granted (Begin e .args .s) (w .result) (w .ensures) (e .if1 .left)
+-- past the first test what is lent is right
+lent : (e : tie.Else1) → Hold (lentRows (asked (e .before .before)) (Begin (e .before .before) .args .cells) (Begin (e .before .before) .args .results))
+lent e =
+    let j = e .before .before in
+    lent-holds (asked j) (Begin j .args .cells) (Begin j .args .results) (Begin j .args .repetitions .now) (j .judge-lent .result)
+    (j .judge-lent .ensures) (sym (e .before .number .ensures) ∙ e .if1 .left)
 
--- past the second: the count is in range
-right : (e : tie.Else3) → CountInRange (Begin (e .before .before) .args .list .now)
-right e = record { whole = e .before .if2 .left; few = e .if3 .left }
+-- past the second every signal is in range
+signals : (e : tie.Else2) → EachSignal (asked (e .before .before .before .before .before) .list) (SignalInRange (asked (e .before .before .before .before .before) .settings))
+signals e = none-each _ _ (e .before .field-out-of-range .result) (e .before .field-out-of-range .ensures) (e .if2 .left)
+
+judge-lent-requires : tie.Need-judge-lent-requires
+judge-lent-requires c κs = search needs
+
+number-requires : tie.Need-number-requires
+number-requires c κs = search needs
 
 returns : tie.Need-returns
 returns c =
-    let w = c .before .setting-out-of-range in
-    let s = c .before .before .before .before .args .s in
-    inl (inl (settings-refused s (w .result) (w .ensures) (c .if1 .taken), (w .result, w .ensures, refl)))
+    let j = c .before .before in
+    judged-lent (asked j) (Begin j .args .cells) (Begin j .args .results) (Begin j .args .repetitions .now) (j .judge-lent .result)
+    (j .judge-lent .ensures) (λ z. c .if1 .taken (c .before .number .ensures ∙ z))
 
-returns-2 : tie.Need-returns-2
-returns-2 c = inl (inr (settings (c .before), inl ((λ h. c .if2 .taken (h .whole)), refl)))
-
-returns-3 : tie.Need-returns-3
-returns-3 c = inl (inr (settings (c .before .before), inl ((λ h. omega (arith, h .few)), refl)))
+count-requires : tie.Need-count-requires
+count-requires c κs = search needs
 
 cast-m : tie.Need-cast-m
-cast-m c = search needs
+cast-m c = omega (arith, lent (c .before) .1 .0 .few, c .count .ensures)
 
-cast-if4 : tie.Need-cast-if4
-cast-if4 c = search needs
+field-out-of-range-requires : tie.Need-field-out-of-range-requires
+field-out-of-range-requires c κs = record { right = lent (c .before) .1 .0; counted = c .count .ensures }
 
-mul-if4 : tie.Need-mul-if4
-mul-if4 c = search needs
-
-mul-t11 : tie.Need-mul-t11
-mul-t11 c = let few = settings (c .before .before .before .before .before) in omega arith
-
-returns-4 : tie.Need-returns-4
-returns-4 c =
+returns-2 : tie.Need-returns-2
+returns-2 c =
     let e = c .before .before .before in
-    inl (inr (settings (e .before .before), inr (right e, inl ((λ h. omega arith), refl))))
+    let j = e .before .before in
+    judged-7 (asked j) (Begin j .args .cells) (Begin j .args .results) (Begin j .args .repetitions .now) (lent e)
+    (c .before .field-out-of-range .result) (c .before .field-out-of-range .ensures) (c .if2 .taken)
 
-cast-if5 : tie.Need-cast-if5
-cast-if5 c = search needs
-
-mul-if5 : tie.Need-mul-if5
-mul-if5 c = search needs
-
-mul-t12 : tie.Need-mul-t12
-mul-t12 c = search needs
-
-returns-5 : tie.Need-returns-5
-returns-5 c =
-    let e = c .before .before .before in
-    inl (inr (settings (e .before .before), inr (right e, inr (omega arith, inl ((λ h. omega arith), refl)))))
-
-judge-signals-requires : tie.Need-judge-signals-requires
-judge-signals-requires c κs =
-    let e = c .before .before .before .before in
+bound-not-kept-requires : tie.Need-bound-not-kept-requires
+bound-not-kept-requires c κs =
+    let n = c .before .before .before in
     record {
-      settings = settings (e .before .before);
-      right = right e;
-      counted = refl;
-      room = Begin (e .before .before) .pre;
+      settings = lent (n .before) .0;
+      count = record { right = lent (n .before) .1 .0; counted = n .count .ensures };
+      signals = signals (c .before);
+      room = Begin (n .before .before .before) .pre;
     }
 
 same-length : tie.Need-same-length
 same-length c = search needs
 
-returns-6 : tie.Need-returns-6
-returns-6 c =
-    let j = c .before .before in
-    let e = j .before .before .before .before .before in
-    let a = Begin (e .before .before) .args in
-    judged-all (a .s) (a .list .now) (j .judge-signals .last .1 .1 .1 .0) (a .cells) (a .results) (j .judge-signals .result)
-    (settings (e .before .before)) (right e) (omega arith) (omega arith) (j .judge-signals .ensures)
+returns-3 : tie.Need-returns-3
+returns-3 c =
+    let b = c .before .before .before in
+    let e = b .before .before in
+    let j = e .before .before .before .before .before in
+    judged-8 (asked j) (Begin j .args .cells) (Begin j .args .results) (b .bound-not-kept .last .1 .1 .1 .0) (lent (e .before .before .before))
+    (signals e) (b .bound-not-kept .result) (b .bound-not-kept .ensures) (c .if3 .taken)
+
+same-length-2 : tie.Need-same-length-2
+same-length-2 c = search needs
+
+returns-4 : tie.Need-returns-4
+returns-4 c =
+    let b = c .before .before .before in
+    let e = b .before .before in
+    let j = e .before .before .before .before .before in
+    judged-done (asked j) (Begin j .args .cells) (Begin j .args .results) (b .bound-not-kept .last .1 .1 .1 .0) (lent (e .before .before .before))
+    (signals e) (b .bound-not-kept .result) (b .bound-not-kept .ensures) (c .if3 .left)
 
 pub judge-spec : {M : Type 1} → statement M
 judge-spec =
     tie.close
     (tie.spec
-    setting-out-of-range-requires
+    judge-lent-requires
+    number-requires
     returns
-    returns-2
-    returns-3
+    count-requires
     cast-m
-    cast-if4
-    mul-if4
-    mul-t11
-    returns-4
-    cast-if5
-    mul-if5
-    mul-t12
-    returns-5
-    judge-signals-requires
+    field-out-of-range-requires
+    returns-2
+    bound-not-kept-requires
     same-length
-    returns-6)
+    returns-3
+    same-length-2
+    returns-4)

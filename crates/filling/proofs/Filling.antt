@@ -1,0 +1,270 @@
+-- The loop that fills: what holds before each frame in the order of filling, how it goes on with a frame, and what is
+-- shown at its end.
+-- Assumes nothing.
+use mathlib.Core.Path.{_≡_, refl, sym, ap, ap₂, subst, _∙_}
+use mathlib.Core.List.{List, [], _∷_, _++_, append-nil, append-assoc}
+use mathlib.Core.List.{List·Memᴰ, List·Memᴰ·not-nil, List·Memᴰ·head, Memᴰ·append-left, Memᴰ·append-right}
+use Prim.Native.Nat.{ℕ, _+_, _≤_, _<_}
+use native.Mathlib.Nat.{le-refl}
+use native.Mathlib.Numerals.{add-one}
+use native.Mathlib.Omega.{arith}
+use lib.ListN.{length, getD, take, drop, set, replicate}
+use lib.ListN.{length-set, length-replicate, getD-replicate, drop-of-length-le}
+use lib.Seq.{getD-set-same, getD-set-other, getD-take, drop-cons}
+use Rattle.terms.specs.declared.Settings.{Settings}
+use Rattle.terms.specs.declared.Frame.{Frame}
+use Rattle.terms.specs.Ranges.{Repetition, FrameInRange}
+use Rattle.terms.specs.Lists.{count, groupOf, groups}
+use Rattle.filling.specs.declared.UnitFrame.{UnitFrame}
+use Rattle.filling.specs.declared.run.Current.{Current}
+use Rattle.filling.specs.declared.run.Step.the-variants.{At, Trouble}
+use Rattle.filling.specs.Runs.{Placed, State, placed, after}
+use Rattle.filling.specs.Filled.{needed, fillFrom, filled}
+use Rattle.filling.specs.Shown.{CellsShow, ResultsShow}
+use Rattle.filling.specs.Outcomes.{repetitionIn}
+use Rattle.filling.specs.Private.{Holds, Holding, Stepped, Paintable, placedAt, FrameShown, Runnable, Ran}
+use Rattle.filling.specs.Private.Stepped.{goes, trouble}
+use Rattle.filling.proofs.RunLaws.{Fits, Room, room-case}
+use Rattle.filling.proofs.RunLaws.Room.{stay, turn}
+use Rattle.filling.proofs.GroupLaws.{stepped, stepped-each, Untroubled}
+use Rattle.filling.proofs.GroupLaws.Untroubled.{goes as goes-well}
+use Rattle.filling.proofs.LoadLaws.{needed-most}
+use Rattle.filling.proofs.FilledLaws.{before, load, states, frames}
+use Rattle.filling.proofs.FilledLaws.{filled-own, filled-only, filled-untroubled, filled-range, filled-apart}
+use Rattle.filling.proofs.GatherLaws.{in-order-length}
+use Rattle.filling.proofs.StepLaws.{start-holds}
+use Rattle.filling.proofs.ShowLaws.{cells-more, results-more}
+
+-- the record of a group's slot, as the arrays hold it
+abbrev pub currentIn : (begun free : List ℕ) → ℕ → Current
+currentIn begun free g = record { slot = record { unit = g; free = getD free g 0 }; begun = getD begun g 0 }
+
+held-as : {s : State} {c d : Current} → Holding s c → d .begun ≡ c .begun → d .slot .free ≡ c .slot .free
+    → Holding s d
+held-as {s} h b f = record { begun = b ∙ h .begun; cycles = subst (Holds (s .cycles)) (sym f) (h .cycles) }
+
+-- ---- what a step tells
+
+module _ {s : State} {f : UnitFrame} where
+  step-frame : {x : Frame} {c : Current} → Stepped s f (At x c) → placed s f .frame ≡ x
+  step-frame (goes n h) = refl
+
+  step-holds : {x : Frame} {c : Current} → Stepped s f (At x c) → Holding (after s f) c
+  step-holds (goes n h) = h
+
+  no-trouble : {k load : ℕ} → Fits k load s f → Stepped s f Trouble → ⊥
+  no-trouble h (trouble n) = n (record { below = h .below; free = λ c l e. h .free c e })
+
+room-least : {s r : State} → Room s r → s .begun ≤ r .begun
+room-least (stay h) = le-refl _
+room-least (turn h) = omega arith
+
+-- ---- the first of frames that are in no trouble, and the rest
+
+module _ {group first load : ℕ → ℕ} {now : ℕ → State} {f : UnitFrame} {fs : List UnitFrame} where
+  first-fits : Untroubled group first load now (f ∷ fs)
+      → Fits (first (group (f .signal))) (load (group (f .signal))) (now (group (f .signal))) f
+  first-fits (goes-well h u) = h
+
+  rest-untroubled : Untroubled group first load now (f ∷ fs) → Untroubled group first load (stepped group now f) fs
+  rest-untroubled (goes-well h u) = u
+
+-- the next frame, of those in front of an array
+pub next-frame : (list : List ℕ) (R : ℕ → ℕ) (array : List UnitFrame) (i : ℕ) (d : UnitFrame)
+    → take (count list) array ≡ frames list R → i < count list
+    → drop i (frames list R) ≡ getD array i d ∷ drop (i + 1) (frames list R)
+next-frame list R array i d e h =
+    drop-cons (frames list R) i d (omega (arith, in-order-length R (count list)))
+    ∙ ap₂ (λ (f : UnitFrame) (k : ℕ). f ∷ drop k (frames list R))
+    (ap (λ (l : List UnitFrame). getD l i d) (sym e) ∙ getD-take (count list) array i d h) (sym (add-one i))
+
+-- ---- the loop
+
+module _ (s : Settings) (list words cells₀ results₀ : List ℕ) where
+  abbrev R : ℕ → ℕ
+  R = repetitionIn words
+
+  abbrev group : ℕ → ℕ
+  group = groupOf list
+
+  abbrev fs : List UnitFrame
+  fs = frames list R
+
+  -- the first i frames are placed and shown, and placing the rest is what is left of the filling
+  pub record Filling (cells results begun free : List ℕ) (i : ℕ) : Type 0 where
+    pub last : i ≤ count list
+    pub now : ℕ → State
+    pub places : List Placed
+    pub left : places ++ fillFrom group now (drop i fs) ≡ filled list R
+    pub untroubled : Untroubled group (before list R) (load list R) now (drop i fs)
+    pub many-begun : length begun ≡ groups
+    pub many-free : length free ≡ groups
+    pub holds : (g : ℕ) → g < groups → Holding (now g) (currentIn begun free g)
+    pub table : CellsShow (s .slots) places cells₀ cells
+    pub shown : ResultsShow s list places results₀ results
+
+  -- what is known where frame f is the next: the state of its group, and how filling goes on with what the step gives
+  pub record AtFrame (cells results begun free : List ℕ) (i : ℕ) (f : UnitFrame) : Type 0 where
+    pub in-groups : group (f .signal) < groups
+    pub few-begun : getD begun (group (f .signal)) 0 ≤ 600
+    pub seven : Repetition (f .repetition)
+    pub state : State
+    pub holds : (u : ℕ) → u ≡ group (f .signal) → Holding state (currentIn begun free u)
+    pub untroubled : Stepped state f Trouble → ⊥
+    pub paintable : (x : Frame) (c : Current) → Stepped state f (At x c) → Paintable cells x
+    pub goes-on : (x : Frame) (c : Current) → Stepped state f (At x c) → (u : ℕ) → u ≡ group (f .signal)
+        → (cells′ results′ : List ℕ) → FrameShown s list (placedAt (f .signal) x) cells results cells′ results′
+        → Filling cells′ results′ (set begun u (c .begun)) (set free u (c .slot .free)) (i + 1)
+
+  module _ (begun₀ : List ℕ) (runs : Runnable s list words begun₀ cells₀ results₀) where
+    -- nothing is placed, and nothing is free
+    pub filling-none : length begun₀ ≡ groups → Filling cells₀ results₀ begun₀ (replicate groups 0) 0
+    filling-none l =
+        record {
+          last = omega arith;
+          now = states list R;
+          places = [];
+          left = refl;
+          untroubled = filled-untroubled list R (runs .fillable .grouped .seven);
+          many-begun = l;
+          many-free = length-replicate {A = ℕ} groups 0;
+          holds = λ g h. start-holds _ _ (runs .begins g h) (getD-replicate groups g 0 0 h);
+          table = runs .cleared;
+          shown = record { same-length = refl; shown = λ p m. absurd (List·Memᴰ·not-nil m); later = λ j h. refl };
+        }
+
+    in-needed : (p : Placed) → List·Memᴰ p (filled list R) → FrameInRange (needed list R) (p .frame)
+    in-needed = filled-range list R (runs .fillable .grouped .seven) (runs .fillable .grouped .group)
+
+    in-segment : (p : Placed) → List·Memᴰ p (filled list R) → FrameInRange (s .slots) (p .frame)
+    in-segment p m =
+        let r = in-needed p m in
+        record { slot = omega (arith, r .slot, runs .fits); repetition = r .repetition; base = r .base }
+
+    module _ (cells results begun free : List ℕ) (i : ℕ) (g : Filling cells results begun free i) where
+      -- frame f is the next
+      module _ (h : i < count list) (f : UnitFrame) (is : drop i fs ≡ f ∷ drop (i + 1) fs) where
+        abbrev own : ℕ
+        own = group (f .signal)
+
+        abbrev p : Placed
+        p = placed (g .now own) f
+
+        abbrev later : ℕ → State
+        later = stepped group (g .now) f
+
+        going : Untroubled group (before list R) (load list R) (g .now) (f ∷ drop (i + 1) fs)
+        going = subst (Untroubled group (before list R) (load list R) (g .now)) is (g .untroubled)
+
+        -- it is placed behind those shown
+        whole : (g .places ++ p ∷ []) ++ fillFrom group later (drop (i + 1) fs) ≡ filled list R
+        unfolding fillFrom
+        whole =
+            append-assoc (g .places) (p ∷ []) (fillFrom group later (drop (i + 1) fs))
+            ∙ ap (λ (l : List UnitFrame). g .places ++ fillFrom group (g .now) l) (sym is)
+            ∙ g .left
+
+        among : (q : Placed) → List·Memᴰ q (g .places ++ p ∷ []) → List·Memᴰ q (filled list R)
+        among q m = subst (List·Memᴰ q) whole (Memᴰ·append-left (fillFrom group later (drop (i + 1) fs)) m)
+
+        earlier : (q : Placed) → List·Memᴰ q (g .places) → List·Memᴰ q (filled list R)
+        earlier q m = among q (Memᴰ·append-left (p ∷ []) m)
+
+        here : List·Memᴰ p (filled list R)
+        here = among p (Memᴰ·append-right (g .places) (List·Memᴰ·head refl))
+
+        own-group : own < groups
+        own-group = runs .fillable .grouped .group (f .signal) (filled-own list R p here .0)
+
+        -- the numbers of slots are small
+        own-begun : getD begun own 0 ≤ 600
+        own-begun =
+            omega (
+              arith,
+              g .holds own own-group .begun,
+              room-least (room-case (g .now own)),
+              in-needed p here .slot,
+              needed-most group R (count list) groups,
+              runs .fillable .grouped .right .few,
+            )
+
+        -- the step placed the frame at x, and left the slot c
+        module _ (x : Frame) (c : Current) (t : Stepped (g .now own) f (At x c)) where
+          abbrev begun′ : ℕ → List ℕ
+          begun′ u = set begun u (c .begun)
+
+          abbrev free′ : ℕ → List ℕ
+          free′ u = set free u (c .slot .free)
+
+          x-paintable : Paintable cells x
+          x-paintable =
+              let r = subst (FrameInRange (s .slots)) (step-frame t) (in-segment p here) in
+              record {
+                frame = record { slot = (r .slot .0, le-refl _); repetition = r .repetition; base = r .base };
+                room = omega (arith, r .slot, runs .fillable .cells, g .table .same-length);
+              }
+
+          holds-next : (k : ℕ) → k < groups → Holding (later k) (currentIn (begun′ own) (free′ own) k)
+          holds-next k =
+              stepped-each group (λ n now. n < groups → Holding now (currentIn (begun′ own) (free′ own) n)) (g .now) f
+              (λ l.
+              held-as (step-holds t) (getD-set-same begun own (c .begun) 0 (omega (arith, g .many-begun)))
+              (getD-set-same free own (c .slot .free) 0 (omega (arith, g .many-free))))
+              (λ n d l.
+              held-as (g .holds n l) (getD-set-other begun own n (c .begun) 0 d)
+              (getD-set-other free own n (c .slot .free) 0 d)) k
+
+          filling-next : (u : ℕ) → u ≡ own → (cells′ results′ : List ℕ)
+              → FrameShown s list (placedAt (f .signal) x) cells results cells′ results′
+              → Filling cells′ results′ (begun′ u) (free′ u) (i + 1)
+          filling-next u e cells′ results′ shows =
+              let is-p = ap (placedAt (f .signal)) (sym (step-frame t)) in
+              let q = subst (λ (y : Placed). FrameShown s list y cells results cells′ results′) is-p shows in
+              let apart = filled-apart list R (runs .fillable .grouped .seven) in
+              subst (λ (n : ℕ). Filling cells′ results′ (begun′ n) (free′ n) (i + 1)) (sym e)
+              (record {
+                last = omega arith;
+                now = later;
+                places = g .places ++ p ∷ [];
+                left = whole;
+                untroubled = rest-untroubled going;
+                many-begun = length-set begun own (c .begun) ∙ g .many-begun;
+                many-free = length-set free own (c .slot .free) ∙ g .many-free;
+                holds = holds-next;
+                table =
+                    cells-more (g .table) p (λ y m. in-segment y (among y m))
+                    (λ y k d m. apart y p (earlier y m) here k d) cells′ (q .painted);
+                shown =
+                    results-more (g .shown) p (runs .fillable .results) (λ y m. filled-own list R y (among y m) .0)
+                    (λ y m. filled-only list R y p (earlier y m) here) results′ (q .resulted);
+              })
+
+        pub at-frame : AtFrame cells results begun free i f
+        at-frame =
+            record {
+              in-groups = own-group;
+              few-begun = own-begun;
+              seven = first-fits going .seven;
+              state = g .now own;
+              holds = λ u e.
+                  subst (λ (n : ℕ). Holding (g .now own) (currentIn begun free n)) (sym e) (g .holds own own-group);
+              untroubled = no-trouble (first-fits going);
+              paintable = x-paintable;
+              goes-on = filling-next;
+            }
+
+      -- all frames are placed
+      pub filling-all : count list ≤ i → Ran s list words cells₀ results₀ 0 cells results
+      unfolding fillFrom
+      filling-all h =
+          let past : length fs ≤ i = omega (arith, in-order-length R (count list)) in
+          let over : drop i fs ≡ [] = drop-of-length-le fs past in
+          let all : g .places ≡ filled list R =
+          sym (append-nil (g .places))
+          ∙ ap (λ (l : List UnitFrame). g .places ++ fillFrom group (g .now) l) (sym over)
+          ∙ g .left in
+          record {
+            none = refl;
+            table = subst (λ (ps : List Placed). CellsShow (s .slots) ps cells₀ cells) all (g .table);
+            shown = subst (λ (ps : List Placed). ResultsShow s list ps results₀ results) all (g .shown);
+          }

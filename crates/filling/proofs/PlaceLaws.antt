@@ -1,0 +1,204 @@
+-- The places that filling gives: one for each frame, in the slots of its group; of two in one group the later has no
+-- earlier slot and no cell of the other; every cell before a place is in use by a frame before; no slot is left out.
+-- Assumes nothing.
+use mathlib.Core.Path.{_≡_, refl, sym, ap, subst}
+use mathlib.Core.Logic.{_⊎_, inl, inr, ⊎-elim, dite}
+use mathlib.Core.List.{List, [], _∷_, List·Memᴰ, List·Memᴰ·head, List·Memᴰ·tail, List·Memᴰ·not-nil}
+use Prim.Native.Nat.{ℕ, _≤_, _<_}
+use native.Mathlib.Nat.{mod-eq-of-lt}
+use native.Mathlib.Decide.{ℕ-discrete, decLe}
+use native.Mathlib.Omega.{arith}
+use Rattle.terms.specs.Ranges.{FrameInRange}
+use Rattle.cycles.specs.Frames.{Sends}
+use Rattle.cycles.proofs.FrameLaws.{remainder-named}
+use Rattle.filling.specs.declared.UnitFrame.{UnitFrame}
+use Rattle.filling.specs.Runs.{Placed, State, placed, after}
+use Rattle.filling.specs.Filled.{fillFrom}
+use Rattle.filling.proofs.OrderLaws.{InTurn, Sooner}
+use Rattle.filling.proofs.OrderLaws.InTurn.{none, ahead}
+use Rattle.filling.proofs.RunLaws.{room-case, room-next}
+use Rattle.filling.proofs.CellLaws.{Gone, Passes, gone-stays, sent-gone, passed-gone, gone-unsent, gone-or-sent}
+use Rattle.filling.proofs.GroupLaws.{current, stepped, stepped-each, last, Untroubled}
+use Rattle.filling.proofs.GroupLaws.Untroubled.{ended, goes}
+
+-- the frame of a place, as it stood in the order of filling
+abbrev pub turnOf : Placed → UnitFrame
+turnOf p = record { signal = p .signal; repetition = p .frame .repetition }
+
+-- the frame of place p goes before that of place q
+abbrev pub SoonerAt : (p q : Placed) → Type 0
+SoonerAt p q = Sooner (turnOf p) (turnOf q)
+
+module _ (group : ℕ → ℕ) where
+  abbrev pub groupAt : Placed → ℕ
+  groupAt p = group (p .signal)
+
+  -- the place of the next frame, and a place among those of all
+  abbrev pub placeOf : (ℕ → State) → UnitFrame → Placed
+  placeOf states f = placed (current group states f) f
+
+  abbrev pub Among : (ℕ → State) → List UnitFrame → Placed → Type 0
+  Among states fs p = List·Memᴰ p (fillFrom group states fs)
+
+  -- ---- one place for each frame
+
+  pub place-from : (fs : List UnitFrame) (states : ℕ → State) {p : Placed} → Among states fs p → List·Memᴰ (turnOf p) fs
+  unfolding fillFrom
+  place-from [] states m = absurd (List·Memᴰ·not-nil m)
+  place-from (f ∷ fs) states (List·Memᴰ·head e) = List·Memᴰ·head (ap turnOf e)
+  place-from (f ∷ fs) states (List·Memᴰ·tail m) = List·Memᴰ·tail (place-from fs (stepped group states f) m)
+
+  pub place-for : (fs : List UnitFrame) (states : ℕ → State) {f : UnitFrame} → List·Memᴰ f fs
+      → (p : Placed) × Among states fs p × (turnOf p ≡ f)
+  unfolding fillFrom
+  place-for (x ∷ fs) states (List·Memᴰ·head e) = (placeOf states x, List·Memᴰ·head refl, sym e)
+  place-for (x ∷ fs) states (List·Memᴰ·tail m) =
+      let r = place-for fs (stepped group states x) m in (r .0, List·Memᴰ·tail (r .1), r .2)
+
+  pub places-sooner : {fs : List UnitFrame} → InTurn Sooner fs → (states : ℕ → State)
+      → InTurn SoonerAt (fillFrom group states fs)
+  unfolding fillFrom
+  places-sooner none states = none
+  places-sooner (ahead {x = f} {l = fs} a t) states =
+      ahead (λ q m. a (turnOf q) (place-from fs (stepped group states f) m)) (places-sooner t (stepped group states f))
+
+  -- place p comes before place q: where they are of one group, q has no earlier slot and no cell of p
+  pub record Leads (p q : Placed) : Type 0 where
+    pub sooner : SoonerAt p q
+    pub onward : groupAt p ≡ groupAt q → p .frame .slot ≤ q .frame .slot
+    pub apart : groupAt p ≡ groupAt q → (k c : ℕ) → Sends (p .frame) k c → Sends (q .frame) k c → ⊥
+
+  -- cycle c of slot k is in use by a place of p's group whose frame goes before p's
+  pub record UsedBefore (places : List Placed) (p : Placed) (k c : ℕ) : Type 0 where
+    pub place : Placed
+    pub among : List·Memᴰ place places
+    pub group-same : groupAt place ≡ groupAt p
+    pub sooner : SoonerAt place p
+    pub sends : Sends (place .frame) k c
+
+  used-later : {places : List Placed} {x p : Placed} {k c : ℕ} → UsedBefore places p k c → UsedBefore (x ∷ places) p k c
+  used-later u =
+      record {
+        place = u .place;
+        among = List·Memᴰ·tail (u .among);
+        group-same = u .group-same;
+        sooner = u .sooner;
+        sends = u .sends;
+      }
+
+  module _ (first load : ℕ → ℕ) where
+    abbrev Going : (ℕ → State) → List UnitFrame → Type 0
+    Going states fs = Untroubled group first load states fs
+
+    -- ---- in the slots of its group
+
+    pub record InSlots (p : Placed) : Type 0 where
+      pub past : first (groupAt p) < p .frame .slot
+      pub frame : FrameInRange (last group first load (groupAt p)) (p .frame)
+
+    pub places-in : {states : ℕ → State} {fs : List UnitFrame} → Going states fs → {p : Placed} → Among states fs p
+        → InSlots p
+    unfolding fillFrom
+    places-in (ended r) m = absurd (List·Memᴰ·not-nil m)
+    places-in (goes h u) (List·Memᴰ·head e) =
+        subst InSlots (sym e)
+        (record {
+          past = h .past;
+          frame = record { slot = omega (arith, h .past, h .within); repetition = h .seven; base = h .below };
+        })
+    places-in (goes h u) (List·Memᴰ·tail m) = places-in u m
+
+    -- ---- no earlier slot, and no cell twice
+
+    -- no place sends a cell that its group's run has gone over
+    unsent : {states : ℕ → State} {fs : List UnitFrame} → Going states fs → {p : Placed} → Among states fs p
+        → (k c : ℕ) → Gone (states (groupAt p)) k c → Sends (p .frame) k c → ⊥
+    unfolding fillFrom
+    unsent (ended r) m k c = absurd (List·Memᴰ·not-nil m)
+    unsent (goes {states} {f} h u) (List·Memᴰ·head e) k c =
+        subst (λ (p : Placed). Gone (states (groupAt p)) k c → Sends (p .frame) k c → ⊥) (sym e)
+        (gone-unsent k c (current group states f) f h)
+    unsent (goes {states} {f} h u) {p} (List·Memᴰ·tail m) k c = λ g.
+        unsent u m k c
+        (stepped-each group (λ x s. Gone (states x) k c → Gone s k c) states f
+        (gone-stays k c (current group states f) f) (λ x n y. y) (groupAt p) g)
+
+    leads : (states : ℕ → State) (f : UnitFrame) {fs : List UnitFrame} → Going (stepped group states f) fs
+        → {q : Placed} → Among (stepped group states f) fs q → Sooner f (turnOf q) → Leads (placeOf states f) q
+    leads states f u {q} m a =
+        record {
+          sooner = a;
+          onward = λ e.
+              dite (decLe (p .frame .slot) (q .frame .slot)) (λ l. l)
+              (λ l. absurd (later e (q .frame .slot) (q .frame .base) (inl (omega arith)) starts));
+          apart = λ e k c x y. later e k c (sent-gone k c (current group states f) f x) y;
+        }
+      where
+        p : Placed
+        p = placeOf states f
+
+        later : groupAt p ≡ groupAt q → (k c : ℕ) → Gone (after (current group states f) f) k c
+            → Sends (q .frame) k c → ⊥
+        later e k c g =
+            unsent u m k c
+            (stepped-each group (λ x s. groupAt p ≡ x → Gone s k c) states f (λ d. g)
+            (λ x n d. absurd (n (sym d))) (groupAt q) e)
+
+        starts : Sends (q .frame) (q .frame .slot) (q .frame .base)
+        starts =
+            let i = places-in u m .frame in
+            (refl, remainder-named (i .repetition) (i .base) (mod-eq-of-lt (i .base)))
+
+    pub places-lead : {states : ℕ → State} {fs : List UnitFrame} → Going states fs → InTurn Sooner fs
+        → InTurn Leads (fillFrom group states fs)
+    unfolding fillFrom
+    places-lead (ended r) t = none
+    places-lead (goes {states} {f} {fs} h u) (ahead a t) =
+        ahead (λ q m. leads states f u m (a (turnOf q) (place-from fs (stepped group states f) m))) (places-lead u t)
+
+    -- ---- no cell and no slot left out
+
+    -- every cell before a place was gone over at first, or is in use by a place before it
+    pub passed-used : {states : ℕ → State} {fs : List UnitFrame} → Going states fs → InTurn Sooner fs
+        → {p : Placed} → Among states fs p → (k c : ℕ) → c < 64 → Passes p k c
+        → Gone (states (groupAt p)) k c ⊎ UsedBefore (fillFrom group states fs) p k c
+    unfolding fillFrom
+    passed-used (ended r) t m k c l b = absurd (List·Memᴰ·not-nil m)
+    passed-used (goes {states} {f} h u) t (List·Memᴰ·head e) k c l b =
+        inl
+        (subst (λ (p : Placed). Passes p k c → Gone (states (groupAt p)) k c) (sym e)
+        (passed-gone k c (current group states f) f l) b)
+    passed-used (goes {states} {f} {fs} h u) (ahead a t) {p} (List·Memᴰ·tail m) k c l b =
+        ⊎-elim
+        (stepped-each group (λ x s. x ≡ groupAt p → Gone s k c → Was x) states f here (λ x n e. inl) (groupAt p) refl)
+        (λ w. inr (used-later w)) (passed-used u t m k c l b)
+      where
+        Was : ℕ → Type 0
+        Was x = Gone (states x) k c ⊎ UsedBefore (fillFrom group states (f ∷ fs)) p k c
+
+        here : group (f .signal) ≡ groupAt p → Gone (after (current group states f) f) k c → Was (group (f .signal))
+        here e g =
+            ⊎-elim (λ y. inl y)
+            (λ y.
+            inr
+            (record {
+              place = placeOf states f;
+              among = List·Memᴰ·head refl;
+              group-same = e;
+              sooner = a (turnOf p) (place-from fs (stepped group states f) m);
+              sends = y;
+            }))
+            (gone-or-sent k c (current group states f) f h l g)
+
+    -- the slots of a group that are not begun yet
+    pub slots-used : {states : ℕ → State} {fs : List UnitFrame} → Going states fs
+        → (g k : ℕ) → states g .begun < k → k ≤ last group first load g
+        → (p : Placed) × Among states fs p × (p .frame .slot ≡ k)
+    unfolding fillFrom
+    slots-used (ended r) g k l h = absurd (omega (arith, r g))
+    slots-used (goes {states} {f} fits u) g k l h =
+        dite (ℕ-discrete (placeOf states f .frame .slot) k) (λ e. (placeOf states f, List·Memᴰ·head refl, e)) (λ n.
+        let onward = stepped-each group (λ x s. states x .begun < k → s .begun < k) states f
+        (λ b. omega (arith, room-next (room-case (current group states f)), n, b)) (λ x d b. b) g l in
+        let r = slots-used u g k onward h in
+        (r .0, List·Memᴰ·tail (r .1), r .2))

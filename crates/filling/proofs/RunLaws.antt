@@ -1,0 +1,162 @@
+-- The run of one group's frames by rising repetition: the invariant of its state, and what it gives for the next frame.
+-- The first free cycle is below the repetition, all cycles of the frame are free, and the slot is one of those needed.
+-- Assumes nothing.
+use mathlib.Core.Path.{_≡_, refl, sym, ap, ap₂, _∙_}
+use mathlib.Core.Bool.{Bool, true, false}
+use mathlib.Core.Logic.{⊎-elim, dite}
+use Prim.Native.Nat.{ℕ, _+_, _*_, _/_, _%_, _≤_, _<_, zero-le}
+use native.Mathlib.Nat.{le-refl, mod-lt, mod-le, mod-add-div'}
+use native.Mathlib.Decide.{decLt}
+use native.Mathlib.Omega.{arith}
+use borrow.Author.Tests.{ltb-true, ltb-false}
+use lib.Dec.{ltb}
+use Rattle.laws.specs.Sums.{sum}
+use Rattle.laws.proofs.SumLaws.{same-cases, sum-ext, sum-le, sum-const, sum-add}
+use Rattle.laws.proofs.RemainderLaws.{same-remainder}
+use Rattle.terms.specs.Ranges.{Repetition}
+use Rattle.terms.proofs.RepetitionLaws.{repetition-positive, repetition-multiple}
+use Rattle.cycles.specs.Loads.{slotsFor}
+use Rattle.filling.specs.declared.UnitFrame.{UnitFrame}
+use Rattle.filling.specs.Cycles.{takes, firstFree}
+use Rattle.filling.specs.Runs.{State, start, next, stayIf, room, after}
+use Rattle.filling.proofs.CycleLaws.{takes-again, takes-sum, share-positive, first-free}
+
+-- behind k slots of others, where `left` of a load is to come and the last repetition was Q: no cycle is taken twice,
+-- what is taken repeats after Q cycles, and the slots begun are full but for the current one's free cycles
+pub record Good (Q k load left : ℕ) (s : State) : Type 0 where
+  pub once : (c : ℕ) → s .cycles c ≤ 1
+  pub again : (c : ℕ) → s .cycles c ≡ s .cycles (c % Q)
+  pub part : left ≤ load
+  pub full : 64 * k + load + 64 ≡ 64 * s .begun + sum (s .cycles) 64 + left
+
+pub start-good : (Q k load : ℕ) → Good Q k load load (start k)
+start-good Q k load =
+    record { once = λ c. le-refl 1; again = λ c. refl; part = le-refl load; full = omega (arith, sum-const 1 64) }
+
+cycles-most : {Q k load left : ℕ} {s : State} → Good Q k load left s → sum (s .cycles) 64 ≤ 64
+cycles-most {s = s} g = omega (arith, sum-le (s .cycles) (λ c. 1) 64 (λ c h. g .once c), sum-const 1 64)
+
+-- where nothing is left the slots of the load are begun
+pub end-reaches : {Q k load : ℕ} {s : State} → Good Q k load 0 s → k + slotsFor load ≤ s .begun
+end-reaches g = omega (arith, g .full, cycles-most g)
+
+-- a larger repetition is a multiple of a smaller one
+pub raised : {Q R k load left : ℕ} {s : State} → Repetition Q → Repetition R → Q ≤ R → Good Q k load left s
+    → Good R k load left s
+raised {Q} {R} {s = s} q r h g =
+    record {
+      once = g .once;
+      again = λ c. g .again c ∙ ap (s .cycles) (sym (shorter c)) ∙ sym (g .again (c % R));
+      part = g .part;
+      full = g .full;
+    }
+  where
+    shorter : (c : ℕ) → c % R % Q ≡ c % Q
+    shorter c =
+        let n = repetition-multiple Q R q r h in
+        same-remainder Q (c % R) c (c / R * n .0, 0, omega (arith, mod-add-div' c R, ap (λ (z : ℕ). c / R * z) (n .1)))
+
+-- ---- the slot that a frame goes to
+
+pub data Room (s : State) : State → Type 0 where
+  stay : firstFree (s .cycles) < 64 → Room s s
+  turn : 64 ≤ firstFree (s .cycles) → Room s (next s)
+
+pub room-case : (s : State) → Room s (room s)
+unfolding room
+room-case s = go (ltb (firstFree (s .cycles)) 64) refl
+  where
+    go : (t : Bool) → ltb (firstFree (s .cycles)) 64 ≡ t → Room s (stayIf t s)
+    go true e = stay (ltb-true (firstFree (s .cycles)) 64 e)
+    go false e = turn (ltb-false (firstFree (s .cycles)) 64 e)
+
+pub room-next : {s r : State} → Room s r → r .begun ≤ s .begun + 1
+room-next (stay h) = omega arith
+room-next (turn h) = le-refl _
+
+-- it has a free cycle
+room-free : {s r : State} → Room s r → firstFree (r .cycles) < 64
+room-free (stay h) = h
+room-free (turn h) =
+    let f = first-free (λ c. 0) in
+    dite (decLt (firstFree (λ c. 0)) 64) (λ l. l) (λ l. absurd (f .before 0 (le-refl 0) (omega arith) refl))
+
+room-good : {Q k load left : ℕ} {s r : State} → Good Q k load left s → Room s r → Good Q k load left r
+room-good g (stay h) = g
+room-good {s = s} g (turn h) =
+    record {
+      once = λ c. zero-le;
+      again = λ c. refl;
+      part = g .part;
+      full = omega (arith, g .full, sum-ext (s .cycles) (λ c. 1) 64 each, sum-const 1 64, sum-const 0 64);
+    }
+  where
+    -- a slot with no free cycle is full
+    each : (c : ℕ) → c < 64 → s .cycles c ≡ 1
+    each c l =
+        let p : s .cycles c ≡ 0 → ⊥ = first-free (s .cycles) .before c zero-le (omega arith) in
+        omega (arith, g .once c, p)
+
+-- ---- one frame
+
+-- the next frame is not in trouble: where it goes, behind k slots of others and within those of a load
+pub record Fits (k load : ℕ) (s : State) (f : UnitFrame) : Type 0 where
+  pub seven : Repetition (f .repetition)
+  pub below : firstFree (room s .cycles) < f .repetition
+  pub free : (c : ℕ) → c % f .repetition ≡ firstFree (room s .cycles) → room s .cycles c ≡ 0
+  pub past : k < room s .begun
+  pub within : room s .begun ≤ k + slotsFor load
+
+module _
+    (k load left : ℕ)
+    (s : State)
+    (f : UnitFrame)
+    (seven : Repetition (f .repetition))
+    (good : Good (f .repetition) k load (64 / f .repetition + left) s)
+  where
+    abbrev R : ℕ
+    R = f .repetition
+
+    abbrev base : ℕ
+    base = firstFree (room s .cycles)
+
+    here : Good R k load (64 / R + left) (room s)
+    here = room-good good (room-case s)
+
+    found : room s .cycles base ≡ 0
+    found = first-free (room s .cycles) .found (room-free (room-case s))
+
+    below-repetition : base < R
+    below-repetition =
+        dite (decLt (base % R) base)
+        (λ l. absurd (first-free (room s .cycles) .before (base % R) zero-le l (sym (here .again base) ∙ found)))
+        (λ l. omega (arith, mod-lt base (repetition-positive R seven), mod-le base R))
+
+    all-free : (c : ℕ) → c % R ≡ base → room s .cycles c ≡ 0
+    all-free c e = here .again c ∙ ap (room s .cycles) e ∙ found
+
+    added : sum (after s f .cycles) 64 ≡ sum (room s .cycles) 64 + 64 / R
+    added =
+        sum-add (room s .cycles) (takes R base) 64
+        ∙ ap (λ (x : ℕ). sum (room s .cycles) 64 + x) (takes-sum R seven base below-repetition)
+
+    pub after-good : Good R k load left (after s f)
+    after-good =
+        record {
+          once = λ c.
+              ⊎-elim (λ q. omega (arith, all-free c (sym (q .0)), q .1)) (λ q. omega (arith, here .once c, q .1))
+              (same-cases base (c % R));
+          again = λ c. ap₂ (λ (x y : ℕ). x + y) (here .again c) (takes-again R base c);
+          part = omega (arith, here .part);
+          full = omega (arith, here .full, added);
+        }
+
+    pub fits : Fits k load s f
+    fits =
+        record {
+          seven = seven;
+          below = below-repetition;
+          free = all-free;
+          past = omega (arith, after-good .full, cycles-most after-good, here .part, share-positive R seven);
+          within = omega (arith, after-good .full, added, share-positive R seven);
+        }

@@ -1,0 +1,116 @@
+-- `filling::groups::loads` meets its contract: a loop over the signals, which tallies each in its group. The measure is
+-- what is left of them. Assumes nothing.
+use mathlib.Core.Path.{_≡_, sym, subst}
+use Prim.Native.Nat.{ℕ, _+_, _-_, _<_}
+use native.Mathlib.Omega.{arith}
+use borrow.Author.Needs.{needs}
+use lib.ListN.{getD}
+use Rattle.terms.specs.Lists.{count, groupOf, groups}
+use Rattle.cycles.specs.Loads.{Tallied}
+use Rattle.filling.specs.Outcomes.{repetitionIn}
+use Rattle.filling.proofs.Tallying.{repetition-at, Tallying, tallying-none, tallying-next, tallying-all}
+use Rattle.filling.proofs.groups.loads.Statement.{statement}
+use Rattle.filling.proofs.groups.loads.Tie as tie
+
+abbrev Inv-loop : tie.InvT-loop
+Inv-loop list repetitions m loads₀ i₀ loads i =
+    Tallying (groupOf list) (repetitionIn repetitions) (count list) loads i × (m ≡ count list)
+
+abbrev μ-loop : tie.MeasureT-loop
+μ-loop list repetitions m loads₀ i₀ loads i = m - i
+
+abbrev Entry : tie.After-group-of Inv-loop μ-loop → tie.Start Inv-loop μ-loop
+Entry k = k .before .before .before .before .before .before
+
+-- the group is one of the groups
+near : (k : tie.After-group-of Inv-loop μ-loop) → k .group-of .result < groups
+near k =
+    let i = k .before .before .loop .i in
+    omega (arith, k .group-of .ensures, Entry k .pre .group (1 + i) (omega arith))
+
+count-requires : tie.Need-count-requires Inv-loop μ-loop
+count-requires c κs = search needs
+
+loop-holds : tie.Need-loop-holds Inv-loop μ-loop
+loop-holds c = (tallying-none _ _ _, c .count .ensures)
+
+cast-group-of : tie.Need-cast-group-of Inv-loop μ-loop
+cast-group-of c = omega arith
+
+add-group-of : tie.Need-add-group-of Inv-loop μ-loop
+add-group-of c = omega arith
+
+group-of-requires : tie.Need-group-of-requires Inv-loop μ-loop
+group-of-requires c κs = search needs
+
+cast-g : tie.Need-cast-g Inv-loop μ-loop
+cast-g c = omega arith
+
+mul-t13 : tie.Need-mul-t13 Inv-loop μ-loop
+mul-t13 c = omega arith
+
+array-read-t10 : tie.Need-array-read-t10 Inv-loop μ-loop
+array-read-t10 c = near c
+
+mul-add : tie.Need-mul-add Inv-loop μ-loop
+mul-add c = omega arith
+
+shared-slice-read-add : tie.Need-shared-slice-read-add Inv-loop μ-loop
+shared-slice-read-add c = omega arith
+
+add-requires : tie.Need-add-requires Inv-loop μ-loop
+add-requires c κs = search needs
+
+mul-loads : tie.Need-mul-loads Inv-loop μ-loop
+mul-loads c = omega arith
+
+array-write-loads : tie.Need-array-write-loads Inv-loop μ-loop
+array-write-loads c = near (c .before .before)
+
+add-i : tie.Need-add-i Inv-loop μ-loop
+add-i c = omega arith
+
+loop-less : tie.Need-loop-less Inv-loop μ-loop
+loop-less c = omega arith
+
+loop-again : tie.Need-loop-again Inv-loop μ-loop
+loop-again c =
+    let k = c .before .before in
+    let l = k .before .before in
+    let b = Entry k in
+    let i = l .loop .i in
+    let g = k .group-of .result in
+    let load = c .add .result .load in
+    let word = sym (repetition-at (b .args .repetitions .now) i) in
+    let more = subst (λ (R : ℕ). Tallied (getD (l .loop .loads) g 0) R load) word (c .add .ensures) in (
+      tallying-next _ _ _ (l .loop .loads) i (l .loop .inv .0) g load (omega arith) (b .pre .right .few) (near k)
+          (sym (k .group-of .ensures)) (b .pre .seven (1 + i) (omega arith)) more,
+      l .loop .inv .1,
+    )
+
+returns : tie.Need-returns Inv-loop μ-loop
+returns c = let l = c .before in tallying-all _ _ _ (l .loop .loads) (l .loop .i) (l .loop .inv .0) (omega arith)
+
+pub loads-spec : {M : Type 1} → statement M
+loads-spec =
+    tie.close
+    (tie.spec
+    Inv-loop
+    μ-loop
+    count-requires
+    loop-holds
+    cast-group-of
+    add-group-of
+    group-of-requires
+    cast-g
+    mul-t13
+    array-read-t10
+    mul-add
+    shared-slice-read-add
+    add-requires
+    mul-loads
+    array-write-loads
+    add-i
+    loop-less
+    loop-again
+    returns)

@@ -1,0 +1,93 @@
+-- `filling::groups::slots_before` meets its contract: a loop over the groups, which adds up their slots. The measure is
+-- what is left of them. Assumes nothing.
+use mathlib.Core.Path.{ap, _∙_}
+use Prim.Native.Nat.{_+_, _-_}
+use native.Mathlib.Omega.{arith}
+use borrow.Author.Needs.{needs}
+use lib.ListN.{set}
+use Rattle.terms.specs.Lists.{count, groupOf, groups}
+use Rattle.cycles.specs.Loads.{slotsFor}
+use Rattle.filling.specs.Outcomes.{repetitionIn}
+use Rattle.filling.proofs.Tallying.{Beginning, beginning-none, beginning-small, beginning-next, beginning-all}
+use Rattle.filling.proofs.groups.slots_before.Statement.{statement}
+use Rattle.filling.proofs.groups.slots_before.Tie as tie
+
+abbrev Inv-loop : tie.InvT-loop
+Inv-loop list repetitions loads begun₀ needed₀ g₀ begun needed g =
+    Beginning (groupOf list) (repetitionIn repetitions) (count list) begun needed g
+
+abbrev μ-loop : tie.MeasureT-loop
+μ-loop list repetitions loads begun₀ needed₀ g₀ begun needed g = groups - g
+
+abbrev Entry : tie.After-slots Inv-loop μ-loop → tie.Start Inv-loop μ-loop
+Entry k = k .before .before .before .before .before .before
+
+-- the group's slots come to those before it
+goes-on : (k : tie.After-slots Inv-loop μ-loop)
+    → let l = k .before .before .loop in
+    let a = Entry k .args in
+    Beginning (groupOf (a .list .now)) (repetitionIn (a .repetitions .now)) (count (a .list .now))
+    (set (l .begun) (l .g) (l .needed)) (l .needed + k .slots .result) (l .g + 1)
+goes-on k =
+    let l = k .before .before in
+    let g = l .loop .g in
+    beginning-next _ _ _ (l .loop .begun) (l .loop .needed) g (l .loop .inv) _ (omega arith)
+    (k .slots .ensures ∙ ap slotsFor (l .before .loads .ensures g (omega arith)))
+
+loads-requires : tie.Need-loads-requires Inv-loop μ-loop
+loads-requires c κs = search needs
+
+loop-holds : tie.Need-loop-holds Inv-loop μ-loop
+loop-holds c = beginning-none _ _ _ _ (omega arith)
+
+mul-begun : tie.Need-mul-begun Inv-loop μ-loop
+mul-begun c = omega arith
+
+array-write-begun : tie.Need-array-write-begun Inv-loop μ-loop
+array-write-begun c = omega arith
+
+mul-needed : tie.Need-mul-needed Inv-loop μ-loop
+mul-needed c = omega arith
+
+array-read-needed : tie.Need-array-read-needed Inv-loop μ-loop
+array-read-needed c = omega arith
+
+slots-requires : tie.Need-slots-requires Inv-loop μ-loop
+slots-requires c κs = search needs
+
+add-needed : tie.Need-add-needed Inv-loop μ-loop
+add-needed c = omega (arith, beginning-small _ _ _ _ _ _ (goes-on c), Entry c .pre .right .few)
+
+add-g : tie.Need-add-g Inv-loop μ-loop
+add-g c = omega arith
+
+loop-less : tie.Need-loop-less Inv-loop μ-loop
+loop-less c = omega arith
+
+loop-again : tie.Need-loop-again Inv-loop μ-loop
+loop-again c = goes-on c
+
+returns : tie.Need-returns Inv-loop μ-loop
+returns c =
+    let l = c .before in
+    let all = beginning-all _ _ _ (l .loop .begun) (l .loop .needed) (l .loop .g) (l .loop .inv) (omega arith) in
+    record { begun = all .0; needed = all .1 }
+
+pub slots-before-spec : {M : Type 1} → statement M
+slots-before-spec =
+    tie.close
+    (tie.spec
+    Inv-loop
+    μ-loop
+    loads-requires
+    loop-holds
+    mul-begun
+    array-write-begun
+    mul-needed
+    array-read-needed
+    slots-requires
+    add-needed
+    add-g
+    loop-less
+    loop-again
+    returns)

@@ -1,0 +1,216 @@
+-- `filling::run::run` meets its contract: a loop over the frames in the order of filling. The measure is what is left of
+-- them. Assumes nothing.
+use mathlib.Core.Path.{_≡_, ap, subst}
+use Prim.Native.Nat.{ℕ, _-_, _<_}
+use native.Mathlib.Omega.{arith}
+use borrow.Author.Needs.{needs}
+use lib.ListN.{getD, take}
+use Rattle.terms.specs.Lists.{count, groups}
+use Rattle.filling.specs.declared.UnitFrame.{UnitFrame}
+use Rattle.filling.specs.declared.run.Step.the-variants.{At}
+use Rattle.filling.specs.Ordered.{ordered}
+use Rattle.filling.specs.Filled.{framesFrom}
+use Rattle.filling.specs.Outcomes.{repetitionIn}
+use Rattle.filling.specs.Private.{Stepped}
+use Rattle.filling.proofs.Filling.{next-frame, Filling, filling-none, AtFrame, at-frame, filling-all}
+use Rattle.filling.proofs.run.run.Statement.{statement}
+use Rattle.filling.proofs.run.run.Tie as tie
+
+abbrev Inv-loop : tie.InvT-loop
+Inv-loop s list repetitions cells₀ results₀ m frames begun₀ free₀ i₀ cells results begun free i =
+    Filling s list repetitions cells₀ results₀ cells results begun free i × (m ≡ count list)
+
+abbrev μ-loop : tie.MeasureT-loop
+μ-loop s list repetitions cells₀ results₀ m frames begun₀ free₀ i₀ cells results begun free i = m - i
+
+abbrev Loop : tie.After-group-of Inv-loop μ-loop → tie.At-loop Inv-loop μ-loop
+Loop k = k .before .before .before
+
+abbrev Entry : tie.At-loop Inv-loop μ-loop → tie.Start Inv-loop μ-loop
+Entry l = l .before .before .before .before .before .before .before
+
+-- the frame at hand
+abbrev none : UnitFrame
+none = record { signal = 0; repetition = 0 }
+
+abbrev next : tie.After-group-of Inv-loop μ-loop → UnitFrame
+next k = getD (Loop k .before .frames-in-order .result) (Loop k .loop .i) none
+
+-- what is known there
+here : (k : tie.After-group-of Inv-loop μ-loop)
+    → let l = Loop k in
+    let a = Entry l .args in
+    AtFrame (a .s) (a .list .now) (a .repetitions .now) (a .cells .now) (a .results .now) (l .loop .cells)
+    (l .loop .results) (l .loop .begun) (l .loop .free) (l .loop .i) (next k)
+here k =
+    let l = Loop k in
+    let a = Entry l .args in
+    let R = repetitionIn (a .repetitions .now) in
+    let all = l .before .frames-in-order in
+    let before : l .loop .i < count (a .list .now) = omega arith in
+    let right =
+    subst (λ (n : ℕ). take n (all .result) ≡ ordered (framesFrom R n 1)) (l .loop .inv .1) (all .ensures) in
+    at-frame _ _ _ _ _ (a .starts) (Entry l .pre) (l .loop .cells) (l .loop .results) (l .loop .begun) (l .loop .free)
+    (l .loop .i) (l .loop .inv .0) before (next k)
+    (next-frame (a .list .now) R (all .result) (l .loop .i) none right before)
+
+own : (k : tie.After-group-of Inv-loop μ-loop) → k .group-of .result < groups
+own k = omega (arith, here k .in-groups, k .group-of .ensures)
+
+-- what the step comes to
+step : (k : tie.After-place Inv-loop μ-loop) → Stepped (here (k .before) .state) (next (k .before)) (k .place .result)
+step k =
+    let g = k .before in
+    k .place .ensures (here g .state) (here g .holds (g .group-of .result) (g .group-of .ensures))
+
+placed : (t : tie.After-frame Inv-loop μ-loop)
+    → let k = t .before .before in
+    Stepped (here (k .before) .state) (next (k .before)) (At (t .frame .given .0 .0) (t .frame .given .0 .1 .0))
+placed t =
+    let k = t .before .before in
+    subst (Stepped (here (k .before) .state) (next (k .before))) (t .frame .given .1) (step k)
+
+count-requires : tie.Need-count-requires Inv-loop μ-loop
+count-requires c κs = search needs
+
+frames-in-order-requires : tie.Need-frames-in-order-requires Inv-loop μ-loop
+frames-in-order-requires c κs =
+    let g = c .before .before .before .before .before .pre .fillable .grouped in
+    let m = c .count .ensures in
+    record {
+      given = omega (arith, g .given);
+      few = omega (arith, g .right .few);
+      seven = λ i b. g .seven i (omega (arith, b));
+    }
+
+loop-holds : tie.Need-loop-holds Inv-loop μ-loop
+loop-holds c =
+    let b = c .before .before .before .before .before .before in
+    (filling-none _ _ _ _ _ (b .args .starts) (b .pre) (omega arith), c .before .count .ensures)
+
+mul-f : tie.Need-mul-f Inv-loop μ-loop
+mul-f c = omega arith
+
+array-copy-out-f : tie.Need-array-copy-out-f Inv-loop μ-loop
+array-copy-out-f c = omega arith
+
+group-of-requires : tie.Need-group-of-requires Inv-loop μ-loop
+group-of-requires c κs = search needs
+
+cast-g : tie.Need-cast-g Inv-loop μ-loop
+cast-g c = omega arith
+
+mul-t21 : tie.Need-mul-t21 Inv-loop μ-loop
+mul-t21 c = omega arith
+
+array-read-t27 : tie.Need-array-read-t27 Inv-loop μ-loop
+array-read-t27 c = own c
+
+mul-t29 : tie.Need-mul-t29 Inv-loop μ-loop
+mul-t29 c = omega arith
+
+array-read-t32 : tie.Need-array-read-t32 Inv-loop μ-loop
+array-read-t32 c = own c
+
+place-requires : tie.Need-place-requires Inv-loop μ-loop
+place-requires c κs =
+    let same = ap (λ (g : ℕ). getD (Loop c .loop .begun) g 0) (c .group-of .ensures) in
+    (omega (arith, here c .few-begun), here c .seven)
+
+enum-known-frame : tie.Need-enum-known-frame Inv-loop μ-loop
+enum-known-frame c = search needs
+
+enum-told : tie.Need-enum-told Inv-loop μ-loop
+enum-told c = search needs
+
+same-length : tie.Need-same-length Inv-loop μ-loop
+same-length c = Loop (c .before .before .before) .loop .inv .0 .table .same-length
+
+same-length-2 : tie.Need-same-length-2 Inv-loop μ-loop
+same-length-2 c = Loop (c .before .before .before) .loop .inv .0 .shown .same-length
+
+returns : tie.Need-returns Inv-loop μ-loop
+returns c =
+    let k = c .before .before in
+    let g = here (k .before) in
+    absurd (g .untroubled (subst (Stepped (g .state) (next (k .before))) (c .enum-told .given .1) (step k)))
+
+mul-free : tie.Need-mul-free Inv-loop μ-loop
+mul-free c = omega arith
+
+array-write-free : tie.Need-array-write-free Inv-loop μ-loop
+array-write-free c = own (c .before .before .before .before .before)
+
+mul-begun : tie.Need-mul-begun Inv-loop μ-loop
+mul-begun c = omega arith
+
+array-write-begun : tie.Need-array-write-begun Inv-loop μ-loop
+array-write-begun c = own (c .before .before .before .before .before)
+
+show-requires : tie.Need-show-requires Inv-loop μ-loop
+show-requires c κs =
+    let t = c .before .before .before .before in
+    here (t .before .before .before) .paintable _ _ (placed t)
+
+add-i : tie.Need-add-i Inv-loop μ-loop
+add-i c = omega arith
+
+loop-less : tie.Need-loop-less Inv-loop μ-loop
+loop-less c = omega arith
+
+loop-again : tie.Need-loop-again Inv-loop μ-loop
+loop-again c =
+    let w = c .before .before .before .before in
+    let t = w .before .before .before .before .before in
+    let k = t .before .before .before in (
+      here k .goes-on _ _ (placed t) (k .group-of .result) (k .group-of .ensures) (w .show .last .1 .1 .1 .1 .0)
+          (w .show .last .1 .1 .1 .1 .1 .0) (w .show .ensures),
+      Loop k .loop .inv .1,
+    )
+
+same-length-3 : tie.Need-same-length-3 Inv-loop μ-loop
+same-length-3 c = c .before .loop .inv .0 .table .same-length
+
+same-length-4 : tie.Need-same-length-4 Inv-loop μ-loop
+same-length-4 c = c .before .loop .inv .0 .shown .same-length
+
+returns-2 : tie.Need-returns-2 Inv-loop μ-loop
+returns-2 c =
+    let l = c .before in
+    filling-all _ _ _ _ _ _ (Entry l .pre) (l .loop .cells) (l .loop .results) (l .loop .begun) (l .loop .free)
+    (l .loop .i) (l .loop .inv .0) (omega arith)
+
+pub run-spec : {M : Type 1} → statement M
+run-spec =
+    tie.close
+    (tie.spec
+    Inv-loop
+    μ-loop
+    count-requires
+    frames-in-order-requires
+    loop-holds
+    mul-f
+    array-copy-out-f
+    group-of-requires
+    cast-g
+    mul-t21
+    array-read-t27
+    mul-t29
+    array-read-t32
+    place-requires
+    enum-known-frame
+    enum-told
+    same-length
+    same-length-2
+    returns
+    mul-free
+    array-write-free
+    mul-begun
+    array-write-begun
+    show-requires
+    add-i
+    loop-less
+    loop-again
+    same-length-3
+    same-length-4
+    returns-2)

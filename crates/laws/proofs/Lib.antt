@@ -1,0 +1,15 @@
+pub mod RowLaws
+pub mod LowestLaws
+pub mod StoredLaws
+pub mod AlongLaws
+pub mod DivisorLaws
+pub mod GivenLaws
+pub mod LentLaws
+pub mod NumbersLaws
+pub mod RemainderLaws
+pub mod SaysLaws
+pub mod Tests
+pub mod Shown
+pub mod Orders
+pub mod SumLaws
+pub mod DecidedLaws

@@ -1,0 +1,4 @@
+pub mod JudgedLaws
+pub mod PlannedLaws
+pub mod Unique
+pub mod PlaceLaws

@@ -1,0 +1,54 @@
+-- `terms::put_result_word` meets its contract: past the end nothing is put.
+-- Assumes nothing.
+use mathlib.Core.Path.{sym, ap}
+use Prim.Native.Nat.{ℕ, _+_, _*_}
+use native.Mathlib.Omega.{arith}
+use borrow.Author.Needs.{needs}
+use denote.Ref.{now}
+use lib.ListN.{set}
+use Rattle.laws.proofs.StoredLaws.{set-past}
+use Rattle.terms.specs.Results.{resultSize, resultStart}
+use Rattle.terms.proofs.put_result_word.Statement.{statement}
+use Rattle.terms.proofs.put_result_word.Tie as tie
+
+earlier-requires : tie.Need-earlier-requires
+earlier-requires c κs = search needs
+
+mul-at : tie.Need-mul-at
+mul-at c = search needs
+
+add-at : tie.Need-add-at
+add-at c = search needs
+
+mul-results : tie.Need-mul-results
+mul-results c = search needs
+
+slice-write-results : tie.Need-slice-write-results
+slice-write-results c = search needs
+
+same-length : tie.Need-same-length
+same-length c = search needs
+
+returns : tie.Need-returns
+returns c =
+    let args = c .before .before .before .args in
+    ap (λ (n : ℕ). set (now (args .results)) (resultSize * n + args .d) (args .x)) (c .before .earlier .ensures .0)
+
+returns-2 : tie.Need-returns-2
+returns-2 c =
+    let args = c .before .before .before .args in
+    sym
+    (set-past (now (args .results)) (resultStart (args .i) + args .d) (args .x) (omega (arith, c .before .earlier .ensures)))
+
+pub put-result-word-spec : {M : Type 1} → statement M
+put-result-word-spec =
+    tie.close
+    (tie.spec
+    earlier-requires
+    mul-at
+    add-at
+    mul-results
+    slice-write-results
+    same-length
+    returns
+    returns-2)

@@ -9,8 +9,8 @@ use Rattle.terms.specs.declared.Signal.{Signal}
 use Rattle.terms.specs.declared.Frame.{Frame}
 use Rattle.terms.proofs.RangesDecided.{valid-or-not, frame-or-not}
 use Rattle.age.specs.Age.{Age}
-use Rattle.age.specs.Given.{InRange, AgeGiven}
-use Rattle.age.proofs.AgeTests.{ageOf, age-of}
+use Rattle.age.specs.AgeGiven.{InRange, AgeGiven}
+use Rattle.age.proofs.AgeTests.{computedAge, computed-age}
 
 module _ (s : Settings) (x : Signal) (f : Frame) where
   in-range-or-not : Dec (InRange s x f)
@@ -21,5 +21,5 @@ module _ (s : Settings) (x : Signal) (f : Frame) where
   pub age-given-exists : (a : ℕ) × AgeGiven s x f a
   age-given-exists =
       dite in-range-or-not
-      (λ r. (ageOf s x f, given-inside (InRange s x f) (Age s x f) (ageOf s x f) r (age-of s x f r)))
+      (λ r. (computedAge s x f, given-inside (InRange s x f) (Age s x f) (computedAge s x f) r (computed-age s x f r)))
       (λ n. (0, given-outside (InRange s x f) (Age s x f) n))

@@ -1,8 +1,8 @@
 pub mod AgeLaws
 pub mod AgeTests
 pub mod FormulaLaws
-pub mod FrameLaws
-pub mod GivenLaws
+pub mod RangedFrames
+pub mod AgeGivenLaws
 pub mod RangeTests
 pub mod SpanLaws
 pub mod Exists

@@ -2,14 +2,14 @@
 -- Assumes nothing.
 use Prim.Native.Nat.{ℕ, _*_, _%_}
 use native.Mathlib.Omega.{arith}
-use Rattle.laws.proofs.Shown.{Test, passing, at-most, less, equal, join, shown}
+use Rattle.laws.proofs.FactTests.{Test, passing, at-most, less, equal, join, shown}
 use Rattle.terms.specs.declared.Settings.{Settings}
 use Rattle.terms.specs.declared.Signal.{Signal}
 use Rattle.terms.specs.declared.Frame.{Frame}
 use Rattle.laws.specs.Lowest.{Between}
 use Rattle.terms.specs.Ranges.{SettingsInRange, SignalInRange, Valid, Repetition, FrameInRange}
 use Rattle.terms.proofs.Seven.{divisor}
-use Rattle.age.specs.Given.{InRange}
+use Rattle.age.specs.AgeGiven.{InRange}
 
 abbrev between : (low high x : ℕ) → Test (Between low high x)
 between low high x = join (at-most low x) (at-most x high)

@@ -1,4 +1,4 @@
 pub mod Age
 pub mod Formula
-pub mod Given
+pub mod AgeGiven
 pub mod Bounds

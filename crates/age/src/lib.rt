@@ -2,7 +2,7 @@
 // Promises: the definition's age, over all releases for ever; 0 exactly where something is out of range.
 ghost use Rattle.laws.specs.Says.{Says};
 ghost use Rattle.age.specs.Age.{IsAge, Age};
-ghost use Rattle.age.specs.Given.{InRange, AgeGiven, LongestGiven};
+ghost use Rattle.age.specs.AgeGiven.{InRange, AgeGiven, LongestGiven};
 ghost use Rattle.age.specs.Bounds.{Bounded};
 use terms::Frame;
 use terms::Settings;

@@ -14,7 +14,7 @@ use Rattle.book.specs.Words.{AllBelow, wordAt}
 use Rattle.book.specs.Blocks.{AreWords, sectionSize, signalsIn, blocksFor, settingsWords, signalWords}
 use Rattle.book.specs.Blocks.{bodyWord, blockWord, bookWord, bookOf}
 use Rattle.book.specs.Reading.{blocksIn, inBlock, signalsOf, usedIn, bookRows, settingsIn, listWord, listIn}
-use Rattle.book.proofs.RunLaws.{upTo-length, upTo-at, check-same}
+use Rattle.book.proofs.UpToLaws.{upTo-length, upTo-at, check-same}
 use Rattle.book.proofs.WordLaws.{all-below, word-fits, bytes-of-words}
 use Rattle.book.proofs.BlockLaws.{signal-listed, body-zero, block-body, block-check}
 use Rattle.book.proofs.SoundLaws.{sound-length, sound-count, sound-check, sound-kind, sound-share, sound-zeros}

@@ -1,4 +1,4 @@
-pub mod RunLaws
+pub mod UpToLaws
 pub mod WordLaws
 pub mod BlockLaws
 pub mod SoundLaws

@@ -24,8 +24,8 @@ use Rattle.book.proofs.SoundLaws.{book-answer, sound-or-not}
 use Rattle.book.proofs.AcceptedLaws.{list-length}
 
 -- what is asked behind a book's own rows, and the place where all is done
-abbrev room : (b lent : List ℕ) → List Row
-room b lent = roomRow (signalSize * signalsOf b) (length lent) ∷ []
+abbrev listRoom : (b lent : List ℕ) → List Row
+listRoom b lent = roomRow (signalSize * signalsOf b) (length lent) ∷ []
 
 abbrev signals : List ℕ → ℕ → Type 0
 signals b p = p ≡ signalsOf b
@@ -37,7 +37,7 @@ module _ (b lent : List ℕ) (r : Reading) where
       → r .settings ≡ fiveZeros → ReadOutcome b lent r lent
   read-refused f n zeros =
       record {
-        answer = refused-front (room b lent) (signals b) _ _ (bookRows b) (signals b) (book-numbered b) n f;
+        answer = refused-front (listRoom b lent) (signals b) _ _ (bookRows b) (signals b) (book-numbered b) n f;
         done = λ z. absurd (n z);
         refused = λ k. (zeros, refl);
       }
@@ -48,7 +48,7 @@ module _ (b lent : List ℕ) (r : Reading) where
       let number = ap numberOf is in
       let place = ap placeOf is in
       record {
-        answer = pass (room b lent) (signals b) _ _ (bookRows b) sound (inl ((λ h. omega arith), number, place));
+        answer = pass (listRoom b lent) (signals b) _ _ (bookRows b) sound (inl ((λ h. omega arith), number, place));
         done = λ z. absurd (omega arith);
         refused = λ k. (zeros, refl);
       }
@@ -58,7 +58,7 @@ module _ (b lent : List ℕ) (r : Reading) where
       → exit ≡ listIn b ++ drop (signalSize * signalsOf b) lent → ReadOutcome b lent r exit
   read-done sound enough number place settings list =
       record {
-        answer = pass (room b lent) (signals b) _ _ (bookRows b) sound (inr (enough, (number, place)));
+        answer = pass (listRoom b lent) (signals b) _ _ (bookRows b) sound (inr (enough, (number, place)));
         done = λ z. (settings, list);
         refused = λ n. absurd (n number);
       }
@@ -101,9 +101,9 @@ module _ {b lent exit : List ℕ} {r : Reading} (read : ReadOutcome b lent r exi
       let (rows, place) = zero-holds (signals b) _ _ (readingRows b (length lent)) numbered (read .answer) z in
       let given = read .done z in
       record {
-        sound = hold-front (bookRows b) (room b lent) rows;
+        sound = hold-front (bookRows b) (listRoom b lent) rows;
         signals = place;
-        enough = hold-rest (bookRows b) (room b lent) rows .0;
+        enough = hold-rest (bookRows b) (listRoom b lent) rows .0;
         settings = given .0;
         words = ap (take (signalSize * signalsOf b)) (given .1) ∙ take-at (listIn b) _ _ (list-length b);
       }
@@ -112,7 +112,7 @@ module _ {b lent exit : List ℕ} {r : Reading} (read : ReadOutcome b lent r exi
   pub sound-read : Hold (bookRows b) → signalSize * signalsOf b ≤ length lent
       → (numberOf (r .answer) ≡ 0) × (placeOf (r .answer) ≡ signalsOf b)
   sound-read sound enough =
-      let rows = hold-join (bookRows b) (room b lent) sound (enough, tt) in
+      let rows = hold-join (bookRows b) (listRoom b lent) sound (enough, tt) in
       holds-zero (signals b) _ _ (readingRows b (length lent)) rows (read .answer)
 
   -- so with room for 600 signals a refusal is one by 1 to 5, whatever is asked after
@@ -121,4 +121,4 @@ module _ {b lent exit : List ℕ} {r : Reading} (read : ReadOutcome b lent r exi
     read-unsound sound = refused (sound-read sound (omega (arith, sound-count b sound .0)) .0)
 
     pub read-refuses : (rest : List Row) (done : ℕ → Type 0) → Answers (bookRows b ++ rest) done (r .answer)
-    read-refuses rest done = same-front (room b lent) (signals b) _ _ (bookRows b) rest done read-unsound (read .answer)
+    read-refuses rest done = same-front (listRoom b lent) (signals b) _ _ (bookRows b) rest done read-unsound (read .answer)

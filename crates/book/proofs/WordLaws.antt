@@ -14,7 +14,7 @@ use lib.Seq.{getD-take, getD-drop}
 use Rattle.book.specs.Words.{AllBelow, upTo, wordOf, byteAt, wordAt, byteOf, byteIn}
 use Rattle.book.specs.Words.{bytesOf, bytesOver, bytesAfter}
 use Rattle.book.specs.Private.{withWord}
-use Rattle.book.proofs.RunLaws.{upTo-length, upTo-at, upTo-is, Over, over-more}
+use Rattle.book.proofs.UpToLaws.{upTo-length, upTo-at, upTo-is, Over, over-more}
 
 -- past its end a list has zeros
 pub all-below : (n : ℕ) (l : List ℕ) → 0 < n → ((i : ℕ) → i < length l → getD l i 0 < n) → AllBelow n l

@@ -17,7 +17,7 @@ use Rattle.book.specs.Blocks.{AreWords, sectionSize, signalsIn, blocksFo
 use Rattle.book.specs.Blocks.{bodyWord, blockWord, bookWord, bookOf}
 use Rattle.book.specs.Reading.{blocksIn, inBlock, signalsOf, usedIn, bookRows, settingsIn, listWord, listIn}
 use Rattle.book.specs.Reading.{LengthRight, CheckRight, KindRight, CountRight, ZerosRight}
-use Rattle.book.proofs.RunLaws.{upTo-is, check-same}
+use Rattle.book.proofs.UpToLaws.{upTo-is, check-same}
 use Rattle.book.proofs.WordLaws.{all-below, word-of-bytes, bytes-length}
 use Rattle.book.proofs.BlockLaws.{each-numbered, body-listed, body-zero, block-body, block-check}
 

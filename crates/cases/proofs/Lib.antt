@@ -1,2 +1,2 @@
-pub mod Filling
+pub mod FillingTests
 pub mod Starred

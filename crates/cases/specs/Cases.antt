@@ -7,7 +7,7 @@ use Rattle.terms.specs.declared.Signal.{Signal}
 use Rattle.terms.specs.declared.Frame.{Frame}
 use Rattle.terms.specs.Ranges.{Valid}
 use Rattle.age.specs.Age.{Age}
-use Rattle.age.specs.Given.{InRange}
+use Rattle.age.specs.AgeGiven.{InRange}
 use Rattle.rule.specs.Rule.{Keeps, segment, Largest, Repetitions}
 use Rattle.terms.specs.Lists.{EachSignal}
 use Rattle.filling.specs.Runs.{Placed}

@@ -1,12 +1,11 @@
 -- The cycles that a frame names are those that leave its base when divided by its repetition.
 -- Assumes nothing.
-use mathlib.Core.Path.{_≡_, sym, ap, _∙_, subst}
+use mathlib.Core.Path.{_≡_, ap, _∙_}
 use mathlib.Core.Logic.{dite}
-use Prim.Native.Nat.{ℕ, _/_, _%_, _≤_, _<_}
+use Prim.Native.Nat.{ℕ, _/_, _%_, _<_}
 use native.Mathlib.Nat.{mod-eq-of-lt, add-mul-mod-self-right, div-add-mod'}
 use native.Mathlib.Decide.{ℕ-discrete}
 use native.Mathlib.Omega.{arith}
-use lib.Pow.{pow-pos, pow-mono}
 use Rattle.terms.specs.declared.Frame.{Frame}
 use Rattle.terms.specs.Ranges.{Repetition, FrameInRange}
 use Rattle.cycles.specs.Frames.{Names, Sends}
@@ -27,10 +26,3 @@ sends-or-not f r k c =
     dite (ℕ-discrete (c % f .repetition) (f .base)) (λ q. yes (e, remainder-named (r .repetition) (r .base) q))
     (λ n. no (λ s. n (named-remainder (s .1)))))
     (λ n. no (λ s. n (s .0)))
-
--- a repetition is from 1 to 64
-pub repetition-least : {R : ℕ} → Repetition R → 1 ≤ R
-repetition-least r = subst (λ (x : ℕ). 1 ≤ x) (sym (r .2)) (pow-pos (r .0))
-
-pub repetition-most : {R : ℕ} → Repetition R → R ≤ 64
-repetition-most r = subst (λ (x : ℕ). x ≤ 64) (sym (r .2)) (pow-mono (r .1))

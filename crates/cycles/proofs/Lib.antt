@@ -1,5 +1,5 @@
 pub mod Patterns
-pub mod Words
+pub mod OperationLaws
 pub mod Unique
 pub mod BitLaws
 pub mod FrameLaws

@@ -27,9 +27,9 @@ shows-test true holds fails = set (holds refl)
 shows-test false holds fails = clear (fails refl)
 
 -- the fact of a bit that is 1, and the bit of a fact that holds
-pub shown : {P : Type 0} {n : ℕ} → Shows P n → n ≡ 1 → P
-shown (set p) e = p
-shown (clear p) e = let z : ⊥ = omega arith in absurd z
+pub is-set : {P : Type 0} {n : ℕ} → Shows P n → n ≡ 1 → P
+is-set (set p) e = p
+is-set (clear p) e = let z : ⊥ = omega arith in absurd z
 
 pub bit-of : {P : Type 0} {n : ℕ} → Shows P n → P → n ≡ 1
 bit-of (set p) q = refl

@@ -16,7 +16,7 @@ use Rattle.cycles.proofs.MaskLaws.{mask-unique}
 use Rattle.cycles.specs.Frames.{Multiple, Names}
 use Rattle.cycles.specs.Loads.{Tallied, slotsFor}
 use Rattle.cycles.specs.Loads.Tallied.{added, past, other}
-use Rattle.cycles.specs.Slots.{Free, Fresh, FirstFree, AllFree, Taken}
+use Rattle.cycles.specs.Slots.{Free, Fresh, FirstFree, AllFree, FrameTaken}
 
 pub pattern-unique : (R a b : ℕ) → a < 2 ^ 64 → b < 2 ^ 64 → Mask a (Multiple R) → Mask b (Multiple R) → a ≡ b
 pattern-unique R = mask-unique (Multiple R)
@@ -61,12 +61,12 @@ pub all-free-unique : (s : Slot) (R base : ℕ) (a b : Bool) → Says (AllFree s
 all-free-unique s R base = says-unique (AllFree s R base)
 
 pub take-unique : (s : Slot) (R base : ℕ) (a b : Slot) → a .free < 2 ^ 64 → b .free < 2 ^ 64
-    → Taken s R base a → Taken s R base b → a ≡ b
+    → FrameTaken s R base a → FrameTaken s R base b → a ≡ b
 take-unique s R base a b ha hb p q =
     same-slot a b (p .unit ∙ sym (q .unit))
     (mask-unique (λ c. Free s c × (Names R base c → ⊥)) (a .free) (b .free) ha hb (p .free) (q .free))
 
 -- the slot lent, at exit
 pub clear-unique : (s : Slot) (R base : ℕ) (a b : Slot) → a .free < 2 ^ 64 → b .free < 2 ^ 64
-    → Taken s R base a → Taken s R base b → a ≡ b
+    → FrameTaken s R base a → FrameTaken s R base b → a ≡ b
 clear-unique = take-unique

@@ -25,6 +25,6 @@ abbrev pub AllFree : Slot → ℕ → ℕ → Type 0
 AllFree s R b = (c : ℕ) → c < 64 → Names R b c → Free s c
 
 -- the slot s with a frame's cycles taken: the unit is kept, and free is what was free and is not the frame's
-pub record Taken (s : Slot) (R b : ℕ) (r : Slot) : Type 0 where
+pub record FrameTaken (s : Slot) (R b : ℕ) (r : Slot) : Type 0 where
   pub unit : r .unit ≡ s .unit
   pub free : Mask (r .free) (λ c. Free s c × (Names R b c → ⊥))

@@ -5,7 +5,7 @@ ghost use Rattle.laws.specs.Says.{Says};
 ghost use Rattle.cycles.specs.Bits.{Mask};
 ghost use Rattle.cycles.specs.Frames.{Multiple, Names};
 ghost use Rattle.cycles.specs.Loads.{Tallied, slotsFor};
-ghost use Rattle.cycles.specs.Slots.{Fresh, FirstFree, AllFree, Taken};
+ghost use Rattle.cycles.specs.Slots.{Fresh, FirstFree, AllFree, FrameTaken};
 
 // The patterns of the repetitions 1, 2, 4, 8, 16, 32 and 64.
 const PATTERNS: [u64; 7] = [
@@ -104,7 +104,7 @@ impl Slot {
 
     // The slot with the cycles of a frame taken.
     pub fn take(self, repetition: u32, base: u32) -> Slot
-        ensures { λ r. ⌜ Taken self repetition base r ⌝ }
+        ensures { λ r. ⌜ FrameTaken self repetition base r ⌝ }
     {
         let cycles = cycles_of(repetition, base);
         Slot {
@@ -115,7 +115,7 @@ impl Slot {
 
     // The step that places a frame: in the slot lent to it the frame's cycles are cleared, and the unit stays.
     pub fn clear(&mut self, repetition: u32, base: u32)
-        ensures { λ _. ⌜ Taken (now (self .entry)) repetition base (now (self .exit)) ⌝ }
+        ensures { λ _. ⌜ FrameTaken (now (self .entry)) repetition base (now (self .exit)) ⌝ }
     {
         let slot = *self;
         *self = slot.take(repetition, base);

@@ -14,13 +14,13 @@ use Rattle.terms.specs.Results.{resultSize, resultAt}
 use Rattle.terms.proofs.RepetitionLaws.{repetition-most}
 use Rattle.terms.proofs.ResultsLaws.{EachWord, each-word, same-at}
 use Rattle.age.specs.Age.{firstStart, spanOf}
-use Rattle.age.specs.Given.{InRange}
+use Rattle.age.specs.AgeGiven.{InRange}
 use Rattle.age.proofs.AgeLaws.{wait-below}
-use Rattle.age.proofs.FrameLaws.{frame-bounded}
+use Rattle.age.proofs.RangedFrames.{frame-bounded}
 use Rattle.rule.specs.Rule.{Kept, Repetitions}
 use Rattle.filling.specs.Runs.{Placed}
 use Rattle.filling.specs.Filled.{needed, filled}
-use Rattle.filling.specs.Shown.{ResultOf, EachResult}
+use Rattle.filling.specs.ShownPlan.{ResultOf, EachResult}
 use Rattle.filling.proofs.FilledLaws.{filled-own, filled-some, filled-range}
 use Rattle.book.specs.Words.{wordAt, bytesOf}
 use Rattle.book.proofs.WordLaws.{word-in-front, word-of-bytes}

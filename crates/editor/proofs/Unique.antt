@@ -20,12 +20,12 @@ use Rattle.terms.specs.Lists.{count}
 use Rattle.terms.specs.Results.{resultSize}
 use Rattle.terms.proofs.RangesLaws.{lowest-word-unique}
 use Rattle.terms.proofs.AnswersLaws.{answers-unique}
-use Rattle.age.specs.Given.{AgeGiven}
-use Rattle.age.proofs.GivenLaws.{age-given-unique}
+use Rattle.age.specs.AgeGiven.{AgeGiven}
+use Rattle.age.proofs.AgeGivenLaws.{age-given-unique}
 use Rattle.rule.specs.Rule.{RepetitionGiven}
 use Rattle.rule.proofs.RuleLaws.{repetition-given-unique}
 use Rattle.filling.specs.Runs.{Placed}
-use Rattle.filling.specs.Shown.{EachResult}
+use Rattle.filling.specs.ShownPlan.{EachResult}
 use Rattle.filling.proofs.Unique.{filled-same, same-list, words-one}
 use Rattle.book.specs.Words.{wordAt}
 use Rattle.book.specs.Reading.{settingsIn, listIn, bookRows}

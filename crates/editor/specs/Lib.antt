@@ -1,4 +1,4 @@
-pub mod Words
+pub mod OfWords
 pub mod Rows
 pub mod Answered
 pub mod Private

@@ -4,10 +4,10 @@ ghost use mathlib.Core.Path.{_≡_};
 ghost use Rattle.laws.specs.Given.{Given};
 ghost use Rattle.terms.specs.Lists.{CountInRange};
 ghost use Rattle.terms.specs.Requests.{request, planRoom};
-ghost use Rattle.age.specs.Given.{AgeGiven};
+ghost use Rattle.age.specs.AgeGiven.{AgeGiven};
 ghost use Rattle.rule.specs.Rule.{RepetitionGiven};
 ghost use Rattle.book.specs.Part.{HasSignal, partStart};
-ghost use Rattle.editor.specs.Words.{settingsGiven, signalGiven, frameGiven};
+ghost use Rattle.editor.specs.OfWords.{settingsGiven, signalGiven, frameGiven};
 ghost use Rattle.editor.specs.Answered.{ReadAnswered, SettingAnswered, WriteAnswered, PlanAnswered, BookAnswered};
 ghost use Rattle.editor.specs.Private.{BytesPlanned};
 use terms::Answer;
@@ -32,7 +32,8 @@ pub extern "C" fn noctelvia_age(
     repetition: u32,
     base: u32,
 ) -> u32
-    ensures { λ r. ⌜ AgeGiven (settingsGiven cycle length slots packing payload) (signalGiven unit period offset size bound) (frameGiven slot repetition base) r ⌝ }
+    ensures { λ r. ⌜ AgeGiven (settingsGiven cycle length slots packing payload)
+        (signalGiven unit period offset size bound) (frameGiven slot repetition base) r ⌝ }
 {
     let s = Settings {
         cycle,
@@ -118,7 +119,8 @@ pub extern "C" fn noctelvia_write(
     list: &[u32],
     room: &mut [u8],
 ) -> u64
-    ensures { λ r. ⌜ WriteAnswered (settingsGiven cycle length slots packing payload) (now (list .entry)) (now (room .entry)) r (now (room .exit)) ⌝ }
+    ensures { λ r. ⌜ WriteAnswered (settingsGiven cycle length slots packing payload) (now (list .entry))
+        (now (room .entry)) r (now (room .exit)) ⌝ }
 {
     let s = Settings {
         cycle,
@@ -150,7 +152,9 @@ pub extern "C" fn noctelvia_plan_list(
     cells: &mut [u32],
     results: &mut [u32],
 ) -> u64
-    ensures { λ r. ⌜ PlanAnswered (request (settingsGiven cycle length slots packing payload) (now (list .entry))) (planRoom (now (cells .entry)) (now (results .entry))) r (planRoom (now (cells .exit)) (now (results .exit))) ⌝ }
+    ensures { λ r. ⌜ PlanAnswered (request (settingsGiven cycle length slots packing payload) (now (list .entry)))
+        (planRoom (now (cells .entry)) (now (results .entry))) r
+        (planRoom (now (cells .exit)) (now (results .exit))) ⌝ }
 {
     let s = Settings {
         cycle,

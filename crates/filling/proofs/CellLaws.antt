@@ -21,8 +21,8 @@ abbrev pub Gone : State → (k c : ℕ) → Type 0
 Gone s k c = (k < s .begun) ⊎ ((k ≡ s .begun) × (s .cycles c ≡ 0 → ⊥))
 
 -- cycle c of slot k stands before a place in the table
-abbrev pub Passes : Placed → (k c : ℕ) → Type 0
-Passes p k c = (k < p .frame .slot) ⊎ ((k ≡ p .frame .slot) × (c < p .frame .base))
+abbrev pub Past : Placed → (k c : ℕ) → Type 0
+Past p k c = (k < p .frame .slot) ⊎ ((k ≡ p .frame .slot) × (c < p .frame .base))
 
 module _ (k c : ℕ) where
   gone-room : {s r : State} → Room s r → Gone s k c → Gone r k c
@@ -51,7 +51,7 @@ module _ (k c : ℕ) where
         inr (sym e, λ z. omega (arith, z, taken))
 
     -- "with the first free cycle as its base"
-    pub passed-gone : c < 64 → Passes (placed s f) k c → Gone s k c
+    pub passed-gone : c < 64 → Past (placed s f) k c → Gone s k c
     passed-gone l b =
         room-gone (room-case s) l
         (⊎-elim (λ h. inl h) (λ e. inr (e .0, first-free (room s .cycles) .before c zero-le (e .1))) b)

@@ -16,8 +16,8 @@ use Rattle.terms.proofs.RepetitionLaws.{repetition-most}
 use Rattle.cycles.specs.Frames.{Sends}
 use Rattle.filling.specs.Runs.{Placed}
 use Rattle.filling.specs.Filled.{needed, filled}
-use Rattle.filling.specs.Tables.{Drawn, taken, slotsUsed, Before, InUse, FillingShown}
-use Rattle.filling.proofs.PlaceLaws.{SoonerAt, UsedBefore}
+use Rattle.filling.specs.Drawn.{Drawn, slotUsed, slotsUsed, Before, InUse, FillingShown}
+use Rattle.filling.proofs.PlacedLaws.{SoonerAt, UsedBefore}
 use Rattle.filling.proofs.FilledLaws.{In, filled-own, filled-some, filled-range, filled-slots, filled-groups}
 use Rattle.filling.proofs.FilledLaws.{filled-one-group, filled-apart, filled-onward, filled-passed}
 
@@ -83,7 +83,7 @@ module _
           ∙ omega (arith, sum-ext used (λ k. 1) N once, sum-const 1 N, sum-zero (λ k. used (N + k)) (n - N) unused)
         where
           used : ℕ → ℕ
-          used k = taken m frame (1 + k)
+          used k = slotUsed m frame (1 + k)
 
           in-slot : (k i : ℕ) → ℕ
           in-slot k i = same (frame (1 + i) .slot) (1 + k)

@@ -15,7 +15,7 @@ use Rattle.cycles.specs.Loads.{slotsFor}
 use Rattle.cycles.proofs.FrameLaws.{remainder-named}
 use Rattle.filling.specs.Cycles.{takes}
 use Rattle.filling.specs.Filled.{groupLoad, slotsBefore}
-use Rattle.filling.specs.Tables.{Drawn, taken, slotsUsed}
+use Rattle.filling.specs.Drawn.{Drawn, slotUsed, slotsUsed}
 use Rattle.filling.proofs.CycleLaws.{takes-sum}
 
 module _ (n m : ℕ) (group : ℕ → ℕ) (frame : ℕ → Frame) (drawn : Drawn n m group frame) where
@@ -111,11 +111,11 @@ module _ (n m : ℕ) (group : ℕ → ℕ) (frame : ℕ → Frame) (drawn : Draw
 
   -- ---- the slots of all groups: a slot has one
 
-  one-owner : (g k : ℕ) → sum (λ h. owned h k) g ≤ taken m frame (1 + k)
+  one-owner : (g k : ℕ) → sum (λ h. owned h k) g ≤ slotUsed m frame (1 + k)
   unfolding owned inSlot
-  one-owner g k = sum-one (λ h. owned h k) g (taken m frame (1 + k)) (λ h l. small h) (λ h j a b. same-owner h j)
+  one-owner g k = sum-one (λ h. owned h k) g (slotUsed m frame (1 + k)) (λ h l. small h) (λ h j a b. same-owner h j)
     where
-      small : (h : ℕ) → owned h k ≤ taken m frame (1 + k)
+      small : (h : ℕ) → owned h k ≤ slotUsed m frame (1 + k)
       small h =
           let fewer = sum-le (inSlot h k) (λ i. same (frame (1 + i) .slot) (1 + k)) m
           (λ i l. omega (arith, mul-le-mul-right (same (frame (1 + i) .slot) (1 + k)) (same-most (group (1 + i)) h))) in
@@ -135,5 +135,5 @@ module _ (n m : ℕ) (group : ℕ → ℕ) (frame : ℕ → Frame) (drawn : Draw
   pub fewest : (g : ℕ) → slotsBefore group (λ i. frame i .repetition) m g ≤ slotsUsed n m frame
   fewest g =
       let each = sum-le (λ h. slotsFor (groupLoad group R m h)) (λ h. sum (owned h) n) g (λ h l. group-slots h) in
-      let one = sum-le (λ k. sum (λ h. owned h k) g) (λ k. taken m frame (1 + k)) n (λ k l. one-owner g k) in
+      let one = sum-le (λ k. sum (λ h. owned h k) g) (λ k. slotUsed m frame (1 + k)) n (λ k l. one-owner g k) in
       omega (arith, each, sum-exchange owned n g, one)

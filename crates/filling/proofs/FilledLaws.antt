@@ -23,10 +23,10 @@ use Rattle.filling.specs.Filled.{groupLoad, slotsBefore, needed, framesF
 use Rattle.filling.proofs.OrderLaws.{InTurn, two-in-turn, sooner-apart, ordered-total, ordered-from, ordered-in}
 use Rattle.filling.proofs.OrderLaws.{OwnFrame, frames-own, frames-in, frames-total, order-sooner}
 use Rattle.filling.proofs.RunLaws.{Good, start-good}
-use Rattle.filling.proofs.CellLaws.{Passes}
+use Rattle.filling.proofs.CellLaws.{Past}
 use Rattle.filling.proofs.GroupLaws.{loadOf, last, Untroubled, untroubled}
-use Rattle.filling.proofs.PlaceLaws.{turnOf, SoonerAt, groupAt, place-from, place-for, places-sooner}
-use Rattle.filling.proofs.PlaceLaws.{Leads, UsedBefore, InSlots, places-in, places-lead, passed-used, slots-used}
+use Rattle.filling.proofs.PlacedLaws.{turnOf, SoonerAt, groupAt, place-from, place-for, places-sooner}
+use Rattle.filling.proofs.PlacedLaws.{Leads, UsedBefore, InSlots, places-in, places-lead, passed-used, slots-used}
 
 module _ (list : List ℕ) (R : ℕ → ℕ) where
   abbrev m : ℕ
@@ -153,7 +153,7 @@ module _ (list : List ℕ) (R : ℕ → ℕ) where
 
     -- every cell of a group's slots before a place is in use by a place of the group whose frame goes before
     pub filled-passed : (p q : Placed) → In p → In q → owner q ≡ owner p → (c : ℕ) → c < 64
-        → Passes p (q .frame .slot) c → UsedBefore group (filled list R) p (q .frame .slot) c
+        → Past p (q .frame .slot) c → UsedBefore group (filled list R) p (q .frame .slot) c
     filled-passed p q a b e c l w =
         let k = q .frame .slot in
         let behind : before (owner p) < k = subst (λ (g : ℕ). before g < k) e (in-slots q b .past) in

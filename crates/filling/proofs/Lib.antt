@@ -3,7 +3,7 @@ pub mod OrderLaws
 pub mod RunLaws
 pub mod CellLaws
 pub mod GroupLaws
-pub mod PlaceLaws
+pub mod PlacedLaws
 pub mod FilledLaws
 pub mod DrawnLaws
 pub mod LoadLaws
@@ -16,6 +16,6 @@ pub mod GatherLaws
 pub mod Gathering
 pub mod StepLaws
 pub mod ShowLaws
-pub mod Filling
+pub mod FillLoop
 pub mod Unique
 pub mod Exists

@@ -13,7 +13,7 @@ use Rattle.cycles.specs.declared.Slot.{Slot}
 use Rattle.cycles.specs.Bits.{bit, Shows}
 use Rattle.cycles.specs.Bits.Shows.{set, clear}
 use Rattle.cycles.specs.Frames.{Names}
-use Rattle.cycles.specs.Slots.{Free, Fresh, FirstFree, AllFree, Taken}
+use Rattle.cycles.specs.Slots.{Free, Fresh, FirstFree, AllFree, FrameTaken}
 use Rattle.cycles.proofs.BitLaws.{bit-lt, bit-none}
 use Rattle.cycles.proofs.FrameLaws.{named-remainder, remainder-named}
 use Rattle.filling.specs.declared.UnitFrame.{UnitFrame}
@@ -108,7 +108,7 @@ module _
       untaken : (c : ℕ) → c < 64 → c % R ≡ base → room s .cycles c ≡ 0
       untaken c l e = omega (arith, h .cycles c l, free c l (remainder-named seven below (e ∙ sym base-alike)))
 
-      module _ (d : Current) (e : d .begun ≡ to .begun) (t : Taken (to .slot) R b (d .slot)) where
+      module _ (d : Current) (e : d .begun ≡ to .begun) (t : FrameTaken (to .slot) R b (d .slot)) where
         taken-holds : Holds (after s f .cycles) (d .slot .free)
         taken-holds c l = go (t .free c l) (same-cases base (c % R))
           where

@@ -17,7 +17,7 @@ use Rattle.terms.specs.Requests.{Request, PlanRoom, planRoom}
 use Rattle.terms.specs.Lists.{count, signalAt, groupOf}
 use Rattle.terms.specs.Results.{resultSize, resultStart}
 use Rattle.terms.proofs.ResultsLaws.{same-words}
-use Rattle.age.proofs.GivenLaws.{age-given-unique}
+use Rattle.age.proofs.AgeGivenLaws.{age-given-unique}
 use Rattle.cycles.specs.Frames.{Sends}
 use Rattle.filling.specs.declared.UnitFrame.{UnitFrame}
 use Rattle.filling.specs.declared.Filled.{Filled}
@@ -25,7 +25,7 @@ use Rattle.filling.specs.Ordered.{ordered}
 use Rattle.filling.specs.Ordered.{ordered}
 use Rattle.filling.specs.Runs.{Placed, start}
 use Rattle.filling.specs.Filled.{framesFrom, fillFrom, filled}
-use Rattle.filling.specs.Shown.{cellOf, CellsShow, ResultOf, EachResult, ResultsShow}
+use Rattle.filling.specs.ShownPlan.{cellOf, CellsShow, ResultOf, EachResult, ResultsShow}
 use Rattle.filling.specs.Outcomes.{repetitionIn, FillOutcome}
 use Rattle.filling.specs.Outcomes.FillOutcome.{unfit, short, done}
 use Rattle.filling.proofs.LoadLaws.{needed-same}

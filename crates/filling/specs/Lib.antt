@@ -2,7 +2,7 @@ pub mod Cycles
 pub mod Ordered
 pub mod Runs
 pub mod Filled
-pub mod Shown
+pub mod ShownPlan
 pub mod Outcomes
-pub mod Tables
+pub mod Drawn
 pub mod Private

@@ -10,7 +10,7 @@ use Rattle.terms.specs.Results.{resultSize}
 use Rattle.filling.specs.declared.Filled.{Filled}
 use Rattle.filling.specs.declared.Filled.the-variants.{Slots, Short, Unfit}
 use Rattle.filling.specs.Filled.{needed, filled}
-use Rattle.filling.specs.Shown.{CellsShow, ResultsShow}
+use Rattle.filling.specs.ShownPlan.{CellsShow, ResultsShow}
 
 -- the repetitions of signals numbered from 1, as words
 abbrev pub repetitionIn : List ℕ → ℕ → ℕ

@@ -1,7 +1,7 @@
 // Each frame in its turn goes into the slots of its group, and is shown.
 ghost use Prim.Native.Nat.{_-_, _^_, _<_};
 ghost use Rattle.terms.specs.Ranges.{Repetition};
-ghost use Rattle.cycles.specs.Slots.{Taken};
+ghost use Rattle.cycles.specs.Slots.{FrameTaken};
 ghost use Rattle.filling.specs.Private.{Roomed, StepOf, Runnable, Ran};
 use crate::UnitFrame;
 use crate::gather;
@@ -41,7 +41,7 @@ fn room(current: Current) -> Current
 
 // The slot with a frame in it: it is lent to the step that places the frame.
 fn with_frame(slot: Slot, repetition: u32, base: u32) -> Slot
-    ensures { λ r. ⌜ Taken slot repetition base r ⌝ }
+    ensures { λ r. ⌜ FrameTaken slot repetition base r ⌝ }
 {
     let mut filled = slot;
     filled.clear(repetition, base);

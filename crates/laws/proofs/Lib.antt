@@ -9,7 +9,7 @@ pub mod NumbersLaws
 pub mod RemainderLaws
 pub mod SaysLaws
 pub mod Tests
-pub mod Shown
+pub mod FactTests
 pub mod Orders
 pub mod SumLaws
 pub mod DecidedLaws

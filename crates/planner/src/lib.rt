@@ -12,7 +12,8 @@ mod judge;
 
 // The plan of a list under settings: 64 cells a slot, a result a signal.
 pub fn plan(s: Settings, list: &[u32], cells: &mut [u32], results: &mut [u32]) -> Answer
-    ensures { λ r. ⌜ Planned (request s (now (list .entry))) (planRoom (now (cells .entry)) (now (results .entry))) r (planRoom (now (cells .exit)) (now (results .exit))) ⌝ }
+    ensures { λ r. ⌜ Planned (request s (now (list .entry))) (planRoom (now (cells .entry)) (now (results .entry))) r
+        (planRoom (now (cells .exit)) (now (results .exit))) ⌝ }
 {
     let mut repetitions = [0u32; terms::MOST_SIGNALS];
     let answer = judge::judge(s, list, cells.len(), results.len(), &mut repetitions);

@@ -14,7 +14,7 @@ use Rattle.age.specs.Age.{Age}
 use Rattle.rule.specs.Rule.{Keeps, segment, Largest, Repetitions}
 use Rattle.filling.specs.Runs.{Placed}
 use Rattle.filling.specs.Filled.{needed, filled}
-use Rattle.filling.specs.Tables.{Drawn, slotsUsed, FillingShown}
+use Rattle.filling.specs.Drawn.{Drawn, slotsUsed, FillingShown}
 use Rattle.filling.proofs.FilledLaws.{filled-own}
 use Rattle.filling.proofs.LoadLaws.{needed-monotone}
 use Rattle.filling.proofs.FewestLaws.{fewest}

@@ -18,7 +18,7 @@ use Rattle.laws.specs.Rows.{FirstRow}
 use Rattle.laws.proofs.RowLaws.{past}
 use Rattle.laws.proofs.SumLaws.{sum-le, sum-const}
 use Rattle.filling.specs.Filled.{needed}
-use Rattle.filling.specs.Tables.{taken, slotsUsed}
+use Rattle.filling.specs.Drawn.{slotUsed, slotsUsed}
 use Rattle.book.specs.Reading.{settingsIn, listIn, bookRows}
 use Rattle.planner.specs.Rows.{Needed, lentRows, signalRows, planningRows}
 use Rattle.planner.proofs.PlannedLaws.{kept-seven}
@@ -36,7 +36,7 @@ use Rattle.promises.proofs.Demand1.{plan-1, list-plans, book-plans, pla
 -- a table uses at most all slots
 used-most : (n m : ℕ) (frame : ℕ → Frame) → slotsUsed n m frame ≤ n
 used-most n m frame =
-    omega (arith, sum-le (λ k. taken m frame (1 + k)) (λ k. 1) n (λ k l. min-le-left 1 _), sum-const 1 n)
+    omega (arith, sum-le (λ k. slotUsed m frame (1 + k)) (λ k. 1) n (λ k l. min-le-left 1 _), sum-const 1 n)
 
 -- signals in range that keep their bounds and need no more than m slots are accepted with at most m
 accepted-within : (s : Settings) (list : List ℕ) (m : ℕ) → EachSignal list (SignalInRange s) → EachSignal list (Kept s)

@@ -13,14 +13,14 @@ use Rattle.terms.specs.Ranges.{SignalInRange, Repetition}
 use Rattle.terms.specs.Lists.{CountInRange, count, signalAt, groupOf, groups, EachSignal}
 use Rattle.age.specs.Age.{IsAge, firstStart, spanOf}
 use Rattle.rule.specs.Rule.{Keeps, segment, Kept, Repetitions}
-use Rattle.rule.proofs.RuleLaws.{largest-grows, frame}
+use Rattle.rule.proofs.RuleLaws.{largest-grows, frameIn}
 use Rattle.filling.specs.Filled.{needed}
 use Rattle.filling.proofs.LoadLaws.{needed-falls}
 use Rattle.promises.specs.Changes.{RaisedSignal, Eased}
 
 keeps-raised : (s : Settings) {x y : Signal} (slots : List ℕ) (R : ℕ) → RaisedSignal x y → Keeps s x slots R → Keeps s y slots R
 keeps-raised s slots R r keeps k b a m l p =
-    let f = frame k R b in
+    let f = frameIn k R b in
     let older = subst₂ (λ (o t : ℕ). IsAge (firstStart s f) (spanOf s f) (s .packing) (s .slot) o t a) (r .offset) (r .period) p in
     omega (arith, keeps k b a m l older, r .raised)
 

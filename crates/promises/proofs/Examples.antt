@@ -63,14 +63,14 @@ lowest-yes = (6, inr ((lit≤ tt, lit≤ tt), inr ((lit≤ tt, lit≤ tt), inl (
 pub lowest-no : LowestOutOfRange settings 4 → ⊥
 lowest-no (n, f) = omega (arith, holds-zero (λ p. p ≡ 0) n 4 (settingRows settings) settings-yes f .1)
 
-abbrev frame : (slot base : ℕ) → Frame
-frame slot base = record { slot = slot; repetition = 4; base = base }
+abbrev frameOf4 : (slot base : ℕ) → Frame
+frameOf4 slot base = record { slot = slot; repetition = 4; base = base }
 
-pub frame-yes : FrameInRange 93 (frame 93 3)
+pub frame-yes : FrameInRange 93 (frameOf4 93 3)
 frame-yes = record { slot = (lit≤ tt, lit≤ tt); repetition = (2, lit≤ tt, refl); base = lit≤ tt }
 
 -- the base is below the repetition
-pub frame-no : FrameInRange 93 (frame 93 4) → ⊥
+pub frame-no : FrameInRange 93 (frameOf4 93 4) → ⊥
 frame-no h = omega (arith, h .base)
 
 pub each-to-yes : EachTo 3 (λ i. i < 4)
@@ -206,8 +206,8 @@ behind-no h = omega (arith, h .1 1 (lit≤ tt))
 abbrev lower : List ℕ
 lower = 1 ∷ 2500 ∷ 0 ∷ 16 ∷ 2000 ∷ []
 
-abbrev both : List ℕ
-both = 1 ∷ 2500 ∷ 15 ∷ 16 ∷ 2500 ∷ lower
+abbrev easedFrom : List ℕ
+easedFrom = 1 ∷ 2500 ∷ 15 ∷ 16 ∷ 2500 ∷ lower
 
 pub raised-yes : RaisedSignal (signalAt lower 1) fresh
 raised-yes = record { unit = refl; period = refl; offset = refl; size = refl; raised = lit≤ tt; most = lit≤ tt }
@@ -220,14 +220,14 @@ pub raised-no-past : RaisedSignal fresh (record { unit = 1; period = 2500; offse
 raised-no-past h = omega (arith, h .most)
 
 -- the first signal struck, and the second's bound raised
-pub eased-yes : Eased both case1
+pub eased-yes : Eased easedFrom case1
 eased-yes =
     record {
       whole = refl;
       was = suc;
       rising = λ i j a b c. omega arith;
       within = λ j b. omega arith;
-      raised = at-one (λ j. RaisedSignal (signalAt both (suc j)) (signalAt case1 j)) raised-yes;
+      raised = at-one (λ j. RaisedSignal (signalAt easedFrom (suc j)) (signalAt case1 j)) raised-yes;
     }
 
 -- a bound lowered

@@ -11,7 +11,7 @@ use Rattle.terms.specs.declared.Frame.{Frame}
 use Rattle.terms.specs.Ranges.{Repetition}
 use Rattle.terms.specs.Lists.{groupOf}
 use Rattle.cycles.specs.Frames.{Sends}
-use Rattle.filling.specs.Tables.{Before, InUse, FillingShown}
+use Rattle.filling.specs.Drawn.{Before, InUse, FillingShown}
 use Rattle.promises.specs.Shows.{frameOf}
 use Rattle.promises.proofs.Inputs.{case1, words, slot-two}
 use Rattle.promises.proofs.Named.{at-one}
@@ -102,8 +102,8 @@ pub units-no : FillingShown 2 (groupOf two-units) (shows (2 ∷ 0 ∷ 1 ∷ 0 �
 units-no h = omega (arith, h .units 1 2 (lit≤ tt, lit≤ tt) (lit≤ tt, lit≤ tt) (lit≤ tt))
 
 -- one slot, but not the lowest
-pub lowest-no : FillingShown 1 (groupOf case1) (shows slot-two) → ⊥
-lowest-no h =
+pub lowest-slot-no : FillingShown 1 (groupOf case1) (shows slot-two) → ⊥
+lowest-slot-no h =
     let first = h .lowest 1 1 (lit≤ tt, lit≤ tt) (lit≤ tt, lit≤ tt) in
     omega (arith, at-one (λ i. shows slot-two i .slot ≡ 2) refl (first .0) (first .1), first .2)
 

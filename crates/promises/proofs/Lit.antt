@@ -15,8 +15,8 @@ use Rattle.terms.specs.declared.Frame.{Frame}
 use Rattle.terms.specs.Ranges.{FrameInRange}
 use Rattle.terms.proofs.RepetitionLaws.{repetition-most}
 use Rattle.cycles.specs.Frames.{Sends}
-use Rattle.filling.specs.Shown.{cellOf}
-use Rattle.filling.specs.Tables.{taken, slotsUsed}
+use Rattle.filling.specs.ShownPlan.{cellOf}
+use Rattle.filling.specs.Drawn.{slotUsed, slotsUsed}
 use Rattle.promises.specs.Demand2.{TableShown}
 use Rattle.promises.specs.Tables.{slotsShown}
 
@@ -29,10 +29,10 @@ module _ (s : Settings) (m : ℕ) (frame : ℕ → Frame) (cells : List ℕ) (fr
   abbrev lit : ℕ → ℕ
   lit k = sum (cellOf cells (1 + k)) 64
 
-  lit-taken : (k : ℕ) → k < s .slots → min 1 (lit k) ≡ taken m frame (1 + k)
+  lit-taken : (k : ℕ) → k < s .slots → min 1 (lit k) ≡ slotUsed m frame (1 + k)
   lit-taken k h = dite (decLe 1 (inSlot k)) some (λ l. none (omega (arith, lt-of-not-le l)))
     where
-      none : inSlot k ≡ 0 → min 1 (lit k) ≡ taken m frame (1 + k)
+      none : inSlot k ≡ 0 → min 1 (lit k) ≡ slotUsed m frame (1 + k)
       none z = ap (min 1) (sum-zero (cellOf cells (1 + k)) 64 clear ∙ sym z)
         where
           clear : (c : ℕ) → c < 64 → cellOf cells (1 + k) c ≡ 0
@@ -43,7 +43,7 @@ module _ (s : Settings) (m : ℕ) (frame : ℕ → Frame) (cells : List ℕ) (fr
               let own : frame (1 + (i - 1)) .slot ≡ 1 + k = ap (λ (j : ℕ). frame j .slot) (add-sub-of-le (b .0)) ∙ sends .0 in
               omega (arith, here, z, same-equal (frame (1 + (i - 1)) .slot) (1 + k) own))
 
-      some : 1 ≤ inSlot k → min 1 (lit k) ≡ taken m frame (1 + k)
+      some : 1 ≤ inSlot k → min 1 (lit k) ≡ slotUsed m frame (1 + k)
       some l =
           let r = sum-some (λ i. same (frame (1 + i) .slot) (1 + k)) m l in
           let i = 1 + r .0 in
@@ -56,4 +56,4 @@ module _ (s : Settings) (m : ℕ) (frame : ℕ → Frame) (cells : List ℕ) (fr
           omega (arith, sum-term (cellOf cells (1 + k)) 64 (frame i .base) small, there, b, l)
 
   pub slots-lit : slotsShown (s .slots) cells ≡ slotsUsed (s .slots) m frame
-  slots-lit = sum-ext (λ k. min 1 (lit k)) (λ k. taken m frame (1 + k)) (s .slots) lit-taken
+  slots-lit = sum-ext (λ k. min 1 (lit k)) (λ k. slotUsed m frame (1 + k)) (s .slots) lit-taken

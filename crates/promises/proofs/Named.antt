@@ -8,7 +8,7 @@ use lib.Dec.{lit≤}
 use lib.ListN.{length}
 use Rattle.laws.specs.Rows.{Hold}
 use Rattle.laws.specs.Lowest.{EachTo}
-use Rattle.laws.proofs.Shown.{Test, passing, less, join, shown}
+use Rattle.laws.proofs.FactTests.{Test, passing, less, join, shown}
 use Rattle.laws.proofs.DivisorLaws.{euclid}
 use Rattle.terms.specs.declared.Signal.{Signal}
 use Rattle.terms.specs.declared.Frame.{Frame}
@@ -18,9 +18,9 @@ use Rattle.terms.specs.Results.{resultSize}
 use Rattle.terms.specs.Requests.{PlanRoom}
 use Rattle.age.proofs.RangeTests.{valid-test}
 use Rattle.rule.specs.Rule.{Keeps, segment, Largest}
-use Rattle.rule.proofs.RuleTests.{gets-test, keeps-at, keeps-flag, divisor}
+use Rattle.rule.proofs.RuleTests.{gets-test, keeps-at, keeps-flag, spanDivisor}
 use Rattle.cycles.specs.Frames.{Names}
-use Rattle.filling.specs.Tables.{Drawn}
+use Rattle.filling.specs.Drawn.{Drawn}
 use Rattle.book.specs.Words.{AllBelow}
 use Rattle.book.specs.Blocks.{AreWords, blocksFor, bookOf}
 use Rattle.book.specs.Reading.{signalsOf, settingsIn, listIn, bookRows}
@@ -45,16 +45,16 @@ Gets x R = Largest (Keeps settings x (segment settings)) R
 
 -- case 1: R is 1
 pub fresh-gets : Gets fresh 1
-unfolding euclid keeps-at keeps-flag divisor
+unfolding euclid keeps-at keeps-flag spanDivisor
 fresh-gets = gets-test settings fresh 1 .1 tt fresh-valid
 
 -- case 3: refused 8
 pub stale-gets : Gets stale 0
-unfolding euclid keeps-at keeps-flag divisor
+unfolding euclid keeps-at keeps-flag spanDivisor
 stale-gets = gets-test settings stale 0 .1 tt stale-valid
 
 pub half-gets : Gets half 2
-unfolding euclid keeps-at keeps-flag divisor
+unfolding euclid keeps-at keeps-flag spanDivisor
 half-gets = gets-test settings half 2 .1 tt half-valid
 
 pub fresh-keeps : Keeps settings fresh (segment settings) 1

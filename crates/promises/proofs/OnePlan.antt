@@ -22,8 +22,8 @@ use Rattle.terms.proofs.ResultsLaws.{same-words}
 use Rattle.age.specs.Age.{firstStart, spanOf, Age}
 use Rattle.age.proofs.AgeLaws.{age-unique}
 use Rattle.cycles.specs.Frames.{Sends}
-use Rattle.filling.specs.Shown.{cellOf}
-use Rattle.filling.specs.Tables.{Drawn, Before, FillingShown}
+use Rattle.filling.specs.ShownPlan.{cellOf}
+use Rattle.filling.specs.Drawn.{Drawn, Before, FillingShown}
 use Rattle.planner.proofs.PlannedLaws.{repetitions-same}
 use Rattle.promises.specs.Shows.{frameOf, ageOf}
 use Rattle.promises.specs.Demand2.{AgeShown, TableShown}
@@ -43,10 +43,10 @@ by-number : Inducts _<_
 by-number P step i = fix {C = P} (Nat·lt-wfRel .wf) step i
 
 -- first by f, and where that is equal by another order
-abbrev First : (f : ℕ → ℕ) (Goes : (i j : ℕ) → Type 0) → (i j : ℕ) → Type 0
-First f Goes i j = (f i < f j) ⊎ ((f i ≡ f j) × Goes i j)
+abbrev ByFirst : (f : ℕ → ℕ) (Goes : (i j : ℕ) → Type 0) → (i j : ℕ) → Type 0
+ByFirst f Goes i j = (f i < f j) ⊎ ((f i ≡ f j) × Goes i j)
 
-by-first : (f : ℕ → ℕ) (Goes : (i j : ℕ) → Type 0) → Inducts Goes → Inducts (First f Goes)
+by-first : (f : ℕ → ℕ) (Goes : (i j : ℕ) → Type 0) → Inducts Goes → Inducts (ByFirst f Goes)
 by-first f Goes inducts P step i =
     by-number (λ n. (i : ℕ) → f i ≡ n → P i)
     (λ n lower.
@@ -166,7 +166,7 @@ module _ (slots m : ℕ) (group : ℕ → ℕ) where
       all-same : EachTo m (λ i. frame i ≡ frame′ i)
       all-same =
           let R : ℕ → ℕ = λ i. frame i .repetition in
-          by-first group (First R _<_) (by-first R _<_ by-number) (λ i. Own i → frame i ≡ frame′ i)
+          by-first group (ByFirst R _<_) (by-first R _<_ by-number) (λ i. Own i → frame i ≡ frame′ i)
           (λ i sooner own. next-same i own (λ j at h. sooner j h at))
 
 pub one-filling :

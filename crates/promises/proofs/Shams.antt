@@ -21,8 +21,8 @@ use Rattle.age.specs.Age.{Age, firstStart, spanOf}
 use Rattle.age.proofs.AgeLaws.{age-unique}
 use Rattle.age.proofs.AgeTests.{age-test}
 use Rattle.cycles.specs.Frames.{Names, Sends}
-use Rattle.filling.specs.Shown.{cellOf}
-use Rattle.filling.specs.Tables.{slotsUsed, FillingShown}
+use Rattle.filling.specs.ShownPlan.{cellOf}
+use Rattle.filling.specs.Drawn.{slotsUsed, FillingShown}
 use Rattle.book.specs.Words.{AllBelow, wordAt}
 use Rattle.book.specs.Blocks.{bookWord, bookOf, writingRows}
 use Rattle.book.specs.Reading.{signalsOf, settingsIn, listIn, bookRows, readingRows}
@@ -36,7 +36,7 @@ use Rattle.promises.specs.Filling.{ShowsFilling}
 use Rattle.promises.proofs.Inputs.{settings, asked, fresh, half, case1, twice, single, pair, blank, words}
 use Rattle.promises.proofs.Inputs.{sixty-four, slot-two, often, invented, spread, colliding, case1-book, pair-book, exchanged}
 use Rattle.promises.proofs.Named.{half-gets, every, slot1, case1-table, case1-count, case1-ready, case1-holds, pair-holds}
-use Rattle.promises.proofs.FillingExamples.{lowest-no}
+use Rattle.promises.proofs.FillingExamples.{lowest-slot-no}
 
 module _ (Gives : Routine Request PlanRoom) where
   -- ---- what breaks demand 2
@@ -134,7 +134,7 @@ module _ (Gives : Routine Request PlanRoom) where
   pub second-slot : ShowsFilling overWords Gives → (l : PlanRoom) (y : Return PlanRoom) → y .number ≡ 0
       → Gives (asked case1) l y → y .lent .results ≡ slot-two → ⊥
   second-slot keeps l y z g e =
-      lowest-no (subst (λ (r : List ℕ). FillingShown 1 (groupOf case1) (frameOf (words r))) e (keeps (asked case1) l y g z))
+      lowest-slot-no (subst (λ (r : List ℕ). FillingShown 1 (groupOf case1) (frameOf (words r))) e (keeps (asked case1) l y g z))
 
 -- what they show is true as far as it goes: the ages are the definition's
 pub sixty-four-true : Age settings fresh (frameOf (words sixty-four) 1) (ageOf (words sixty-four) 1)

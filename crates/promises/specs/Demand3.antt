@@ -13,7 +13,7 @@ use Rattle.terms.specs.Lists.{CountInRange, count, signalAt, EachSignal}
 use Rattle.rule.specs.Rule.{Repetitions}
 use Rattle.promises.specs.Calls.{Routine, Always, WhereDone}
 use Rattle.promises.specs.Shows.{frameOf, ageOf, Planning}
-use Rattle.filling.specs.Tables.{slotsUsed}
+use Rattle.filling.specs.Drawn.{slotsUsed}
 use Rattle.promises.specs.Tables.{Table}
 use Rattle.promises.specs.Changes.{Eased}
 

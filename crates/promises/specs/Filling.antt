@@ -1,6 +1,6 @@
 -- "Filling the table": where among the tables of fewest slots a plan lies, sentence by sentence, of the frames that it shows.
 use Rattle.terms.specs.Lists.{count, groupOf}
-use Rattle.filling.specs.Tables.{FillingShown}
+use Rattle.filling.specs.Drawn.{FillingShown}
 use Rattle.promises.specs.Calls.{Routine, WhereDone}
 use Rattle.promises.specs.Shows.{frameOf, Planning}
 

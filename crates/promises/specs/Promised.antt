@@ -38,7 +38,8 @@ pub record BooksKeep
     pub writing : Demand1Writing GivesWritten
     pub books : Demand2Books With GivesRead GivesWritten
 
--- of all routines, and of the paper's formula; from C settings are asked for by themselves, so a lent list that is too short, number 10, does not keep them back
+-- of all routines, and of the paper's formula; from C settings are asked for by themselves, so a lent list that is too
+-- short, number 10, does not keep them back
 pub record Promised : Type 1 where
   pub plan : PlanningKeeps Plans
   pub plan-list : PlanningKeeps PlansList

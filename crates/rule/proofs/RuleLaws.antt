@@ -21,18 +21,18 @@ use Rattle.terms.proofs.RepetitionLaws.{repetition-positive, repetition-most, r
 use Rattle.age.specs.Age.{IsAge, firstStart, spanOf}
 use Rattle.age.proofs.AgeLaws.{age-exists}
 use Rattle.age.proofs.SpanLaws.{oftener-younger, span-within-period}
-use Rattle.age.proofs.FrameLaws.{first-below-span}
-use Rattle.age.specs.Given.{LongestGiven}
-use Rattle.age.proofs.GivenLaws.{given-age, age-given}
+use Rattle.age.proofs.RangedFrames.{first-below-span}
+use Rattle.age.specs.AgeGiven.{LongestGiven}
+use Rattle.age.proofs.AgeGivenLaws.{given-age, age-given}
 use Rattle.rule.specs.Rule.{Keeps, segment, Largest, RepetitionGiven}
 use Rattle.rule.specs.Waits.{WaitKept, BasesKept}
 
-abbrev pub frame : ℕ → ℕ → ℕ → Frame
-frame k R b = record { slot = k; repetition = R; base = b }
+abbrev pub frameIn : ℕ → ℕ → ℕ → Frame
+frameIn k R b = record { slot = k; repetition = R; base = b }
 
 module _ (s : Settings) (x : Signal) (v : Valid s x) where
   -- each frame of the segment starts first before its span ends
-  pub first-below : (k R b : ℕ) → Between 1 (s .slots) k → b < R → firstStart s (frame k R b) < spanOf s (frame k R b)
+  pub first-below : (k R b : ℕ) → Between 1 (s .slots) k → b < R → firstStart s (frameIn k R b) < spanOf s (frameIn k R b)
   first-below k R b h l =
       first-below-span R (s .cycle) b k (s .slots) (s .slot) l (h .0) (h .1) (omega (arith, v .settings)) (omega (arith, v .settings))
 
@@ -55,18 +55,18 @@ module _ (s : Settings) (x : Signal) (v : Valid s x) where
         from : (1 ≤ k) × (k < 1 + s .slots) → a ≤ x .bound
         from h =
             let f = first-below k R b (omega arith) l in
-            let given = age-given (firstStart s (frame k R b)) (R * s .cycle) (s .packing) (s .slot) (x .offset) (x .period) g f (v .signal .period .0) c a p in
-            let same : ahead + b * s .cycle + (k - 1) * s .slot ≡ firstStart s (frame k R b) + ahead = omega arith in
+            let given = age-given (firstStart s (frameIn k R b)) (R * s .cycle) (s .packing) (s .slot) (x .offset) (x .period) g f (v .signal .period .0) c a p in
+            let same : ahead + b * s .cycle + (k - 1) * s .slot ≡ firstStart s (frameIn k R b) + ahead = omega arith in
             let there = subst (λ (n : ℕ). WaitKept (s .packing + R * s .cycle) g (s .slot) (x .bound) n) same (kept b l (k - 1) (omega arith)) in
             omega (arith, there (given .0) (given .1), given .2)
 
     pub keeps-searched : Keeps s x (segment s) R → Searched
     keeps-searched keeps b l k h w p =
         let f = first-below (k + 1) R b (omega arith) l in
-        let same : ahead + b * s .cycle + k * s .slot ≡ firstStart s (frame (k + 1) R b) + ahead = omega (arith, ap (λ (i : ℕ). i * s .slot) (add-sub-cancel k 1)) in
+        let same : ahead + b * s .cycle + k * s .slot ≡ firstStart s (frameIn (k + 1) R b) + ahead = omega (arith, ap (λ (i : ℕ). i * s .slot) (add-sub-cancel k 1)) in
         let there = subst (λ (n : ℕ). LongestGiven (s .packing + R * s .cycle) n g w) same p in
         keeps (k + 1) b (w + s .slot) (among 1 (s .slots) (k + 1) (omega arith) (omega arith)) l
-        (given-age (firstStart s (frame (k + 1) R b)) (R * s .cycle) (s .packing) (s .slot) (x .offset) (x .period) g f (v .signal .period .0) c w there)
+        (given-age (firstStart s (frameIn (k + 1) R b)) (R * s .cycle) (s .packing) (s .slot) (x .offset) (x .period) g f (v .signal .period .0) c w there)
 
   -- "If some R keeps it, every smaller one does."
   pub smaller-keeps :
@@ -86,12 +86,12 @@ module _ (s : Settings) (x : Signal) (v : Valid s x) where
           let t = v .signal .period .0 in
           let more : R * s .cycle ≡ n * (Q * s .cycle) = ap (λ (i : ℕ). i * s .cycle) e ∙ mul-assoc n Q (s .cycle) in
           let age =
-          age-exists (firstStart s (frame k R b)) (R * s .cycle) (s .packing) (s .slot) (x .offset) (x .period) f t in
+          age-exists (firstStart s (frameIn k R b)) (R * s .cycle) (s .packing) (s .slot) (x .offset) (x .period) f t in
           let rarer =
-          subst (λ (i : ℕ). IsAge (firstStart s (frame k Q b)) i (s .packing) (s .slot) (x .offset) (x .period) (age .0)) more
+          subst (λ (i : ℕ). IsAge (firstStart s (frameIn k Q b)) i (s .packing) (s .slot) (x .offset) (x .period) (age .0)) more
           (age .1) in
           let younger =
-          oftener-younger (firstStart s (frame k Q b)) (Q * s .cycle) n (s .packing) (s .slot) (x .offset) (x .period) a (age .0)
+          oftener-younger (firstStart s (frameIn k Q b)) (Q * s .cycle) n (s .packing) (s .slot) (x .offset) (x .period) a (age .0)
           (omega arith) p rarer in
           omega (arith, younger, keeps k b (age .0) m (omega arith) (age .1))
 
@@ -101,8 +101,8 @@ module _ (s : Settings) (x : Signal) (v : Valid s x) where
   keeps-within-period slots k R m h l keeps =
       let f = first-below k R 0 h l in
       let t = v .signal .period .0 in
-      let age = age-exists (firstStart s (frame k R 0)) (R * s .cycle) (s .packing) (s .slot) (x .offset) (x .period) f t in
-      span-within-period (firstStart s (frame k R 0)) (R * s .cycle) (s .packing) (s .slot) (x .offset) (x .period) f t (age .0)
+      let age = age-exists (firstStart s (frameIn k R 0)) (R * s .cycle) (s .packing) (s .slot) (x .offset) (x .period) f t in
+      span-within-period (firstStart s (frameIn k R 0)) (R * s .cycle) (s .packing) (s .slot) (x .offset) (x .period) f t (age .0)
       (omega (arith, v .settings)) (age .1) (omega (arith, keeps k 0 (age .0) m l (age .1), v .signal .bound))
 
 -- a higher bound keeps what a lower one keeps

@@ -12,7 +12,7 @@ use borrow.Author.Tests.{leb-true, leb-false}
 use Rattle.laws.specs.Says.{Says}
 use Rattle.laws.proofs.SaysLaws.{says, says-same}
 use Rattle.laws.proofs.Tests.{below, below-says}
-use Rattle.laws.proofs.Shown.{Test, join, shown, said-true, said-false}
+use Rattle.laws.proofs.FactTests.{Test, join, shown, said-true, said-false}
 use Rattle.laws.proofs.DivisorLaws.{euclid, euclid-gcd, gcd-positive, divisor-at-most}
 use Rattle.laws.proofs.GivenLaws.{given-inside}
 use Rattle.laws.proofs.NumbersLaws.{within}
@@ -22,8 +22,8 @@ use Rattle.terms.specs.Ranges.{Valid, Repetition}
 use Rattle.terms.proofs.RepetitionLaws.{below-half}
 use Rattle.age.specs.Formula.{Longest}
 use Rattle.age.proofs.FormulaLaws.{longest-from-top}
-use Rattle.age.specs.Given.{LongestGiven}
-use Rattle.age.proofs.GivenLaws.{longest-given-unique}
+use Rattle.age.specs.AgeGiven.{LongestGiven}
+use Rattle.age.proofs.AgeGivenLaws.{longest-given-unique}
 use Rattle.rule.specs.Rule.{Keeps, segment, Largest}
 use Rattle.rule.proofs.RuleLaws.{span-range, searched-keeps, keeps-searched, smaller-keeps}
 use Rattle.rule.specs.Waits.{WaitKept, BasesKept}
@@ -60,17 +60,17 @@ unfolding keeps-at
 keeps-at-says limit g slot bound slots cycle bases n h l =
     below-says _ _ (λ b. below-says _ _ (λ k. wait-says limit g slot bound (n + b * cycle + k * slot) h l) slots) bases
 
-unfoldable pub divisor : Settings → Signal → ℕ → ℕ
-divisor s x R = euclid (R * s .cycle) (x .period) (R * s .cycle)
+unfoldable pub spanDivisor : Settings → Signal → ℕ → ℕ
+spanDivisor s x R = euclid (R * s .cycle) (x .period) (R * s .cycle)
 
 unfoldable pub keeps-flag : Settings → Signal → ℕ → Bool
 keeps-flag s x R =
-    keeps-at (s .packing + R * s .cycle) (divisor s x R) (s .slot) (x .bound) (s .slots) (s .cycle) R (divisor s x R - x .offset % divisor s x R)
+    keeps-at (s .packing + R * s .cycle) (spanDivisor s x R) (s .slot) (x .bound) (s .slots) (s .cycle) R (spanDivisor s x R - x .offset % spanDivisor s x R)
 
 pub keeps-says : (s : Settings) (x : Signal) (R : ℕ) → Valid s x → Repetition R → Says (Keeps s x (segment s) R) (keeps-flag s x R)
-unfolding keeps-flag divisor
+unfolding keeps-flag spanDivisor
 keeps-says s x R v r =
-    let g = divisor s x R in
+    let g = spanDivisor s x R in
     let c = euclid-gcd (x .period) (R * s .cycle) in
     let span = span-range s x v R r in
     says-same (keeps-flag s x R) (searched-keeps s x v R g c) (keeps-searched s x v R g c)

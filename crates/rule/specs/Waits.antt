@@ -2,7 +2,7 @@
 -- `n` is a first start and what the offset lacks of a multiple of g.
 use Prim.Native.Nat.{ℕ, _+_, _≤_}
 use Rattle.laws.specs.Along.{Along}
-use Rattle.age.specs.Given.{LongestGiven}
+use Rattle.age.specs.AgeGiven.{LongestGiven}
 
 abbrev pub WaitKept : (limit g slot bound n : ℕ) → Type 0
 WaitKept limit g slot bound n = (w : ℕ) → LongestGiven limit n g w → w + slot ≤ bound

@@ -4,7 +4,8 @@ use mathlib.Core.List.{List}
 use Prim.Native.Nat.{ℕ, _+_, _*_, _≤_}
 use Rattle.laws.specs.Rows.{Row, FirstRow}
 use Rattle.terms.specs.declared.Answer.{Answer}
-use Rattle.terms.specs.declared.Answer.the-variants.{Done, Length, Check, Kind, Count, Zero, Setting, Field, Bound, Slots, Room, Taken}
+use Rattle.terms.specs.declared.Answer.the-variants.{Done, Length, Check, Kind, Count, Zero}
+use Rattle.terms.specs.declared.Answer.the-variants.{Setting, Field, Bound, Slots, Room, Taken}
 
 abbrev pub numberOf : Answer → ℕ
 numberOf (Done p) = 0

@@ -4,7 +4,7 @@ use borrow.Author.Needs.{needs}
 use Rattle.laws.proofs.GivenLaws.{given-inside, given-outside}
 use Rattle.laws.proofs.SaysLaws.{granted, refused}
 use Rattle.age.specs.Age.{Age}
-use Rattle.age.specs.Given.{InRange}
+use Rattle.age.specs.AgeGiven.{InRange}
 use Rattle.age.proofs.age.Statement.{statement}
 use Rattle.age.proofs.age.Tie as tie
 

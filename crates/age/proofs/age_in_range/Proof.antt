@@ -5,7 +5,7 @@ use native.Mathlib.Omega.{arith}
 use lib.Dec.{lit<, lit≤}
 use Rattle.laws.proofs.Orders.{product-below}
 use Rattle.terms.proofs.RepetitionLaws.{repetition-most}
-use Rattle.age.proofs.FrameLaws.{FrameBounded, frame-bounded}
+use Rattle.age.proofs.RangedFrames.{FrameBounded, frame-bounded}
 use borrow.Author.Needs.{needs}
 use Rattle.age.proofs.age_in_range.Statement.{statement}
 use Rattle.age.proofs.age_in_range.Tie as tie

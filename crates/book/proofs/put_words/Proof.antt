@@ -6,7 +6,7 @@ use Prim.Native.Nat.{_-_, _≤_}
 use native.Mathlib.Omega.{arith}
 use lib.ListN.{length, getD}
 use borrow.Author.Needs.{needs}
-use Rattle.book.proofs.RunLaws.{over-none}
+use Rattle.book.proofs.UpToLaws.{over-none}
 use Rattle.book.proofs.WordLaws.{Put, put-more, put-all, bytes-after-none, bytes-after-all}
 use Rattle.book.proofs.put_words.Statement.{statement}
 use Rattle.book.proofs.put_words.Tie as tie

@@ -7,8 +7,8 @@ use Rattle.laws.proofs.SaysLaws.{granted, refused}
 use Rattle.terms.specs.Ranges.{Repetition}
 use Rattle.cycles.proofs.MaskLaws.{mask-none}
 use Rattle.cycles.specs.Frames.{Names}
-use Rattle.cycles.proofs.FrameLaws.{repetition-most}
-use Rattle.cycles.proofs.Words.{shifted}
+use Rattle.terms.proofs.RepetitionLaws.{repetition-most}
+use Rattle.cycles.proofs.OperationLaws.{shifted}
 use Rattle.cycles.proofs.cycles_of.Statement.{statement}
 use Rattle.cycles.proofs.cycles_of.Tie as tie
 
@@ -33,7 +33,7 @@ seven : (c : tie.Else1) → Repetition (c .before .before .args .repetition)
 seven c = granted (c .before .is-repetition .result) (c .before .is-repetition .ensures) (c .if1 .left)
 
 shl-result : tie.Need-shl-result
-shl-result c = omega (arith, repetition-most (seven (c .before .before)))
+shl-result c = omega (arith, repetition-most _ (seven (c .before .before)))
 
 returns-3 : tie.Need-returns-3
 returns-3 c = shifted (c .pattern .result) (seven (c .before .before)) (c .before .if2 .left) (c .pattern .ensures)

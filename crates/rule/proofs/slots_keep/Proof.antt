@@ -4,7 +4,7 @@ use Prim.Native.Nat.{ℕ, _-_}
 use native.Mathlib.Omega.{arith}
 use borrow.Author.Needs.{needs}
 use Rattle.laws.proofs.AlongLaws.{passed-none, passed-one, passed-all, passed-not, passed-below, Passed}
-use Rattle.age.proofs.GivenLaws.{longest-given-unique, longest-given-most}
+use Rattle.age.proofs.AgeGivenLaws.{longest-given-unique, longest-given-most}
 use Rattle.rule.specs.Waits.{WaitKept}
 use Rattle.rule.proofs.slots_keep.Statement.{statement}
 use Rattle.rule.proofs.slots_keep.Tie as tie

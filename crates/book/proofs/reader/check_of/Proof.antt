@@ -9,7 +9,7 @@ use Rattle.laws.specs.Sums.{sum}
 use Rattle.laws.proofs.SumLaws.{sum-none}
 use Rattle.book.specs.Words.{checkOf}
 use Rattle.book.specs.Reading.{inBlock}
-use Rattle.book.proofs.RunLaws.{sum-kept}
+use Rattle.book.proofs.UpToLaws.{sum-kept}
 use Rattle.book.proofs.reader.check_of.Statement.{statement}
 use Rattle.book.proofs.reader.check_of.Tie as tie
 

@@ -9,7 +9,7 @@ use lib.ListN.{drop}
 use borrow.Author.Needs.{needs}
 use Rattle.book.specs.Words.{upTo}
 use Rattle.book.specs.Reading.{listWord}
-use Rattle.book.proofs.RunLaws.{Over, over-none, over-one}
+use Rattle.book.proofs.UpToLaws.{Over, over-none, over-one}
 use Rattle.book.proofs.reader.copy_list.Statement.{statement}
 use Rattle.book.proofs.reader.copy_list.Tie as tie
 

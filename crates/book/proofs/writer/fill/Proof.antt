@@ -8,7 +8,7 @@ use borrow.Author.Needs.{needs}
 use Rattle.laws.specs.Sums.{sum}
 use Rattle.laws.proofs.SumLaws.{sum-none}
 use Rattle.book.specs.Blocks.{bodyWord, bookWord}
-use Rattle.book.proofs.RunLaws.{over-none, sum-past-word}
+use Rattle.book.proofs.UpToLaws.{over-none, sum-past-word}
 use Rattle.book.proofs.WordLaws.{Put, put-more, put-all}
 use Rattle.book.proofs.BlockLaws.{block-body}
 use Rattle.book.proofs.writer.fill.Statement.{statement}

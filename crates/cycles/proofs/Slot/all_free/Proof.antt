@@ -5,7 +5,7 @@ use lib.Dec.{eqb}
 use borrow.Author.Needs.{needs}
 use borrow.Author.Tests.{eqb-true, eqb-false}
 use Rattle.laws.proofs.SaysLaws.{says}
-use Rattle.cycles.proofs.Words.{all-free, mask-free}
+use Rattle.cycles.proofs.OperationLaws.{all-free, mask-free}
 use Rattle.cycles.proofs.Slot.all_free.Statement.{statement}
 use Rattle.cycles.proofs.Slot.all_free.Tie as tie
 

@@ -41,7 +41,7 @@ use denote.Triple.Walked.{says, Stays, stay-ref, stay-none, walkOf, AllGo, goes-
 use denote.Exit.{yes}
 use Rattle.laws.proofs.LentLaws.{clause}
 use Rattle.cycles.specs.declared.Slot.{Slot}
-use Rattle.cycles.specs.Slots.{Taken}
+use Rattle.cycles.specs.Slots.{FrameTaken}
 use Rattle.cycles.proofs.Slot as T
 use Rattle.cycles.proofs.Slot.Laws as T′
 use Rattle.cycles.proofs.Slot.take as take
@@ -65,8 +65,8 @@ module _ {M : Type 1} (𝓤 : URA M) (H : Heap 𝓤) (A : Atoms 𝓤) (at-mem : 
   Take = tripleOf 𝓤 H A take.signature (take.spec 𝓤 H A at-mem run)
 
   -- of what `take` ensures, the clause alone: nothing is lent to it
-  taken-of : (s : Slot) (R b : ℕ) (r : Slot) → ent 𝓤 (ensured 𝓤 H A take.ended (take.clauses 𝓤 H A at-mem run) tt (s, (R, (b, tt))) tt r) (fact 𝓤 (Taken s R b r))
-  taken-of s R b r = clause 𝓤 (λ ws. sem 𝓤 H A (lasts take.ended tt (s, (R, (b, tt))) ws)) (fact 𝓤 (Taken s R b r))
+  taken-of : (s : Slot) (R b : ℕ) (r : Slot) → ent 𝓤 (ensured 𝓤 H A take.ended (take.clauses 𝓤 H A at-mem run) tt (s, (R, (b, tt))) tt r) (fact 𝓤 (FrameTaken s R b r))
+  taken-of s R b r = clause 𝓤 (λ ws. sem 𝓤 H A (lasts take.ended tt (s, (R, (b, tt))) ws)) (fact 𝓤 (FrameTaken s R b r))
 
 module _ {M : Type 1} (𝓤 : URA M) (H : Heap 𝓤) (A : Atoms 𝓤) (W : Given 𝓤 H A) (at-mem : Memory → SProp 𝓤) (run : Routine → Fun 𝓤) (κ : Lft) (q : Share) (b o : ℕ) (γ : GName) (s : Slot) (R c : ℕ) (R-fits : R < 2 ^ 32) (c-fits : c < 2 ^ 32) where
   abbrev x : Arg
@@ -85,7 +85,7 @@ module _ {M : Type 1} (𝓤 : URA M) (H : Heap 𝓤) (A : Atoms 𝓤) (W : Given
   abbrev Post : Val → SProp 𝓤
   Post = walkOf 𝓤 H A clear.ended stayed (clear.clauses 𝓤 H A at-mem run) .post (((κ, tt), (q, tt), tt, x, at), tt)
 
-  exits : (r : Slot) → Taken s R c r → ent 𝓤 (sep 𝓤 (A .obs γ (T.the-row .coded .code r)) (sep 𝓤 (A .bor κ (Body (mem (T.the-row)) b o γ)) (A .lft κ q))) (Post vunit)
+  exits : (r : Slot) → FrameTaken s R c r → ent 𝓤 (sep 𝓤 (A .obs γ (T.the-row .coded .code r)) (sep 𝓤 (A .bor κ (Body (mem (T.the-row)) b o γ)) (A .lft κ q))) (Post vunit)
   exits r e =
       qed W (‵ (fobs γ (T.the-row .coded .code r)) ∷ ‵ (fbor κ (Body (mem (T.the-row)) b o γ)) ∷ ‵ (flft κ q) ∷ []) ∵
       suffices ! _ (ends-at 𝓤 H A clear.ended stayed (clear.clauses 𝓤 H A at-mem run) W (((κ, tt), (q, tt), tt, x, at), tt) vunit tt (r, (tt, (tt, tt))) (tt, (tt, (tt, tt)))) $ says ! e $ nothing ! $ move ! (3 ∷ 0 ∷ []) $ join ! $
@@ -115,7 +115,7 @@ module _ {M : Type 1} (𝓤 : URA M) (H : Heap 𝓤) (A : Atoms 𝓤) (W : Given
         move ! (1 ∷ []) $ use1 W (raw (Take 𝓤 H A at-mem run .pre to-take)) goes-take $
         calls-at ! fm (Take 𝓤 H A at-mem run) known to-take (and-then ! (load ! (from ! (stop !)) (look ! 9 refl)) (and-then ! (load ! (from ! (stop !)) (look ! 13 refl)) (and-then ! (load ! (from ! (stop !)) (look ! 11 refl)) (no-more !)))) (λ v.
         use1 W (later (some (λ (r : Slot). (‵ ftrue ⊛ ‵ (T.the-row .own r (v ∷ []))) ⊛ raw (ensured 𝓤 H A take.ended (take.clauses 𝓤 H A at-mem run) tt (s, (R, (c, tt))) tt r)))) (id⊢ 𝓤 _) $ await ! tt $ pick ! (λ r.
-        split ! $ move ! (1 ∷ []) $ use1 W (raw (fact 𝓤 (Taken s R c r))) (taken-of 𝓤 H A at-mem run s R c r) $ heard ! (Taken s R c r) (λ e. split ! $ drop ! $
+        split ! $ move ! (1 ∷ []) $ use1 W (raw (fact 𝓤 (FrameTaken s R c r))) (taken-of 𝓤 H A at-mem run s R c r) $ heard ! (FrameTaken s R c r) (λ e. split ! $ drop ! $
         peeks ! T.the-row (Is T.the-row) (shows 𝓤 H A T.the-row) r (v ∷ []) (λ is.
         land ! (from ! (stop !)) (init ! 7 refl (typed r v is)) $
         -- [what the new slot owns; the cell; the open borrow; obs; auth; true; the numbers'; _5; …]

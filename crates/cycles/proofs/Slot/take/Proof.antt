@@ -2,7 +2,7 @@
 -- Assumes nothing.
 use mathlib.Core.Path.{refl}
 use borrow.Author.Needs.{needs}
-use Rattle.cycles.proofs.Words.{left-free}
+use Rattle.cycles.proofs.OperationLaws.{left-free}
 use Rattle.cycles.proofs.Slot.take.Statement.{statement}
 use Rattle.cycles.proofs.Slot.take.Tie as tie
 

@@ -6,7 +6,7 @@ use borrow.Author.Needs.{needs}
 use Rattle.laws.proofs.SaysLaws.{granted, refused}
 use Rattle.terms.specs.Ranges.{Repetition}
 use Rattle.cycles.specs.Loads.Tallied.{added, past, other}
-use Rattle.cycles.proofs.FrameLaws.{repetition-least}
+use Rattle.terms.proofs.RepetitionLaws.{repetition-positive}
 use Rattle.cycles.proofs.Tally.add.Statement.{statement}
 use Rattle.cycles.proofs.Tally.add.Tie as tie
 
@@ -20,7 +20,7 @@ seven : (c : tie.Else1) → Repetition (c .before .before .args .repetition)
 seven c = granted (c .before .is-repetition .result) (c .before .is-repetition .ensures) (c .if1 .left)
 
 div-more : tie.Need-div-more
-div-more c = omega (arith, repetition-least (seven c))
+div-more c = omega (arith, repetition-positive _ (seven c))
 
 sub-if2 : tie.Need-sub-if2
 sub-if2 c = omega (arith, div-le-self 64 (c .before .before .args .repetition))

@@ -12,7 +12,7 @@ use Rattle.filling.specs.Ordered.{ordered}
 use Rattle.filling.specs.Filled.{framesFrom}
 use Rattle.filling.specs.Outcomes.{repetitionIn}
 use Rattle.filling.specs.Private.{Stepped}
-use Rattle.filling.proofs.Filling.{next-frame, Filling, filling-none, AtFrame, at-frame, filling-all}
+use Rattle.filling.proofs.FillLoop.{next-frame, Filling, filling-none, AtFrame, at-frame, filling-all}
 use Rattle.filling.proofs.run.run.Statement.{statement}
 use Rattle.filling.proofs.run.run.Tie as tie
 

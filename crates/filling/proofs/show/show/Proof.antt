@@ -4,7 +4,7 @@ use mathlib.Core.Path.{refl, subst}
 use borrow.Author.Needs.{needs}
 use Rattle.terms.specs.declared.Signal.{Signal}
 use Rattle.terms.specs.Lists.{signalAt}
-use Rattle.age.specs.Given.{AgeGiven}
+use Rattle.age.specs.AgeGiven.{AgeGiven}
 use Rattle.filling.proofs.show.show.Statement.{statement}
 use Rattle.filling.proofs.show.show.Tie as tie
 

@@ -17,7 +17,7 @@ use Rattle.age.specs.Formula.{Longest}
 use Rattle.age.proofs.FormulaLaws.{longest-unique, longest-from-top, remainder-ahead}
 use Rattle.age.proofs.AgeLaws.{age-unique, formula-is-age}
 use Rattle.age.proofs.SpanLaws.{age-at-least-slot}
-use Rattle.age.specs.Given.{InRange, AgeGiven, LongestGiven}
+use Rattle.age.specs.AgeGiven.{InRange, AgeGiven, LongestGiven}
 
 pub age-given-unique : (s : Settings) (x : Signal) (f : Frame) (a b : ℕ) → AgeGiven s x f a → AgeGiven s x f b → a ≡ b
 age-given-unique s x f =

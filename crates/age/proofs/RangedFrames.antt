@@ -7,7 +7,7 @@ use Rattle.terms.specs.declared.Settings.{Settings}
 use Rattle.terms.specs.declared.Signal.{Signal}
 use Rattle.terms.specs.declared.Frame.{Frame}
 use Rattle.age.specs.Age.{firstStart, spanOf}
-use Rattle.age.specs.Given.{InRange}
+use Rattle.age.specs.AgeGiven.{InRange}
 use Rattle.age.specs.Bounds.{Bounded}
 
 -- a slot of the segment in a cycle below the repetition starts before the span ends

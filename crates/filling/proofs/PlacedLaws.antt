@@ -17,7 +17,7 @@ use Rattle.filling.specs.Filled.{fillFrom}
 use Rattle.filling.proofs.OrderLaws.{InTurn, Sooner}
 use Rattle.filling.proofs.OrderLaws.InTurn.{none, ahead}
 use Rattle.filling.proofs.RunLaws.{room-case, room-next}
-use Rattle.filling.proofs.CellLaws.{Gone, Passes, gone-stays, sent-gone, passed-gone, gone-unsent, gone-or-sent}
+use Rattle.filling.proofs.CellLaws.{Gone, Past, gone-stays, sent-gone, passed-gone, gone-unsent, gone-or-sent}
 use Rattle.filling.proofs.GroupLaws.{current, stepped, stepped-each, last, Untroubled}
 use Rattle.filling.proofs.GroupLaws.Untroubled.{ended, goes}
 
@@ -160,13 +160,13 @@ module _ (group : ℕ → ℕ) where
 
     -- every cell before a place was gone over at first, or is in use by a place before it
     pub passed-used : {states : ℕ → State} {fs : List UnitFrame} → Going states fs → InTurn Sooner fs
-        → {p : Placed} → Among states fs p → (k c : ℕ) → c < 64 → Passes p k c
+        → {p : Placed} → Among states fs p → (k c : ℕ) → c < 64 → Past p k c
         → Gone (states (groupAt p)) k c ⊎ UsedBefore (fillFrom group states fs) p k c
     unfolding fillFrom
     passed-used (ended r) t m k c l b = absurd (List·Memᴰ·not-nil m)
     passed-used (goes {states} {f} h u) t (List·Memᴰ·head e) k c l b =
         inl
-        (subst (λ (p : Placed). Passes p k c → Gone (states (groupAt p)) k c) (sym e)
+        (subst (λ (p : Placed). Past p k c → Gone (states (groupAt p)) k c) (sym e)
         (passed-gone k c (current group states f) f l) b)
     passed-used (goes {states} {f} {fs} h u) (ahead a t) {p} (List·Memᴰ·tail m) k c l b =
         ⊎-elim

@@ -18,11 +18,11 @@ pub record Drawn (n m : ℕ) (group : ℕ → ℕ) (frame : ℕ → Frame) : Typ
   pub one-group : (i j : ℕ) → Between 1 m i → Between 1 m j → frame i .slot ≡ frame j .slot → group i ≡ group j
 
 -- 1 where slot k has the frame of one of m signals, else 0; and how many of the slots 1 to n have one
-abbrev pub taken : (m : ℕ) → (ℕ → Frame) → ℕ → ℕ
-taken m frame k = min 1 (sum (λ i. same (frame (1 + i) .slot) k) m)
+abbrev pub slotUsed : (m : ℕ) → (ℕ → Frame) → ℕ → ℕ
+slotUsed m frame k = min 1 (sum (λ i. same (frame (1 + i) .slot) k) m)
 
 abbrev pub slotsUsed : (n m : ℕ) → (ℕ → Frame) → ℕ
-slotsUsed n m frame = sum (λ k. taken m frame (1 + k)) n
+slotsUsed n m frame = sum (λ k. slotUsed m frame (1 + k)) n
 
 -- frame i goes before frame j: "The frames of a unit go by rising repetition, equal ones by place in the list."
 abbrev pub Before : (group : ℕ → ℕ) → (ℕ → Frame) → (i j : ℕ) → Type 0

@@ -20,7 +20,7 @@ use Rattle.filling.specs.declared.run.Current.{Current}
 use Rattle.filling.specs.declared.run.Step.the-variants.{At, Trouble}
 use Rattle.filling.specs.Runs.{Placed, State, placed, after}
 use Rattle.filling.specs.Filled.{needed, fillFrom, filled}
-use Rattle.filling.specs.Shown.{CellsShow, ResultsShow}
+use Rattle.filling.specs.ShownPlan.{CellsShow, ResultsShow}
 use Rattle.filling.specs.Outcomes.{repetitionIn}
 use Rattle.filling.specs.Private.{Holds, Holding, Stepped, Paintable, placedAt, FrameShown, Runnable, Ran}
 use Rattle.filling.specs.Private.Stepped.{goes, trouble}

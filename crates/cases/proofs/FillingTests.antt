@@ -7,7 +7,7 @@ use mathlib.Core.Logic.{⊎-elim}
 use Prim.Native.Nat.{ℕ, zero, suc}
 use native.Mathlib.Nat.{eq-or-lt-of-le}
 use native.Mathlib.Omega.{arith}
-use Rattle.laws.proofs.Shown.{Test, passing, equal, join, shown}
+use Rattle.laws.proofs.FactTests.{Test, passing, equal, join, shown}
 use Rattle.terms.specs.declared.Settings.{Settings}
 use Rattle.terms.specs.declared.Signal.{Signal}
 use Rattle.laws.specs.Lowest.{Between}
@@ -36,25 +36,25 @@ same-places [] (q ∷ qs) = (false, λ t. absurd t)
 same-places (p ∷ ps) [] = (false, λ t. absurd t)
 same-places (p ∷ ps) (q ∷ qs) = shown (λ h. λ i. h .0 i ∷ h .1 i) (join (same-place p q) (same-places ps qs))
 
-pub none : (i : ℕ) → Between 1 0 i → ⊥
-none i b = omega (arith, b .0, b .1)
+pub none-to : (i : ℕ) → Between 1 0 i → ⊥
+none-to i b = omega (arith, b .0, b .1)
 
-pub next : (P : ℕ → Type 0) (n : ℕ) → P (suc n) → ((i : ℕ) → Between 1 n i → P i) → (i : ℕ) → Between 1 (suc n) i → P i
-next P n p h i b = ⊎-elim (λ e. subst P (sym e) p) (λ l. h i (omega arith)) (eq-or-lt-of-le (b .1))
+pub one-more : (P : ℕ → Type 0) (n : ℕ) → P (suc n) → ((i : ℕ) → Between 1 n i → P i) → (i : ℕ) → Between 1 (suc n) i → P i
+one-more P n p h i b = ⊎-elim (λ e. subst P (sym e) p) (λ l. h i (omega arith)) (eq-or-lt-of-le (b .1))
 
 -- a test passes at each of the numbers 1 to n
 abbrev up-to : (P : ℕ → Type 0) → ((i : ℕ) → Test (P i)) → (n : ℕ) → Test ((i : ℕ) → Between 1 n i → P i)
-up-to P t zero = passing (λ i b. absurd (none i b))
-up-to P t (suc n) = shown (λ h. next P n (h .0) (h .1)) (join (t (suc n)) (up-to P t n))
+up-to P t zero = passing (λ i b. absurd (none-to i b))
+up-to P t (suc n) = shown (λ h. one-more P n (h .0) (h .1)) (join (t (suc n)) (up-to P t n))
 
 -- a signal is valid, and its repetition is the one that it gets
-abbrev signal-test : (s : Settings) (x : Signal) (r : ℕ) → Test (Valid s x × Largest (Keeps s x (segment s)) r)
-signal-test s x r = shown (λ h. (h .0, h .1 (h .0))) (join (valid-test s x) (gets-test s x r))
+abbrev repetition-test : (s : Settings) (x : Signal) (r : ℕ) → Test (Valid s x × Largest (Keeps s x (segment s)) r)
+repetition-test s x r = shown (λ h. (h .0, h .1 (h .0))) (join (valid-test s x) (gets-test s x r))
 
 abbrev pub fills-test : (s : Settings) (list repetitions : List ℕ) (places : List Placed) (slots : ℕ) → Test (FilledAs s list repetitions places slots)
 fills-test s list repetitions places slots =
     shown (λ h. record { valid = λ i b. h .0 i b .0; gets = λ i b. h .0 i b .1; places = h .1 .0; used = h .1 .1 })
     (join
     (up-to (λ i. Valid s (signalAt list i) × Largest (Keeps s (signalAt list i) (segment s)) (repetitionIn repetitions i))
-    (λ i. signal-test s (signalAt list i) (repetitionIn repetitions i)) (count list))
+    (λ i. repetition-test s (signalAt list i) (repetitionIn repetitions i)) (count list))
     (join (same-places (filled list (repetitionIn repetitions)) places) (equal (needed list (repetitionIn repetitions)) slots)))

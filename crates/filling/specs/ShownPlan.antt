@@ -8,7 +8,7 @@ use Rattle.terms.specs.declared.Settings.{Settings}
 use Rattle.terms.specs.declared.Result.{Result}
 use Rattle.terms.specs.Lists.{count, signalAt}
 use Rattle.terms.specs.Results.{resultSize, resultAt}
-use Rattle.age.specs.Given.{AgeGiven}
+use Rattle.age.specs.AgeGiven.{AgeGiven}
 use Rattle.cycles.specs.Frames.{Sends}
 use Rattle.filling.specs.Runs.{Placed}
 

@@ -11,7 +11,7 @@ use Rattle.terms.specs.Ranges.{Repetition}
 use Rattle.cycles.specs.declared.Slot.{Slot}
 use Rattle.cycles.specs.Bits.{bit, Shows, Mask}
 use Rattle.cycles.proofs.BitLaws.{bit-lt, bit-and, bit-not, bit-kept, bit-shifted, bit-shifted-out, equal-by-bits}
-use Rattle.cycles.proofs.MaskLaws.{shows-iff, shows-never, shown, bit-of, shows-without, shows-itself}
+use Rattle.cycles.proofs.MaskLaws.{shows-iff, shows-never, is-set, bit-of, shows-without, shows-itself}
 use Rattle.cycles.specs.Frames.{Multiple, Names}
 use Rattle.cycles.specs.Slots.{AllFree, Free}
 
@@ -50,7 +50,7 @@ module _ (s : Slot) (R b m : ℕ) (mask : Mask m (Names R b)) where
       least : (c : ℕ) → c < 64 → min (bit (s .free) c) (bit m c) ≡ bit m c
       least c l =
           dite (decLe 1 (bit m c)) (λ g. let one : bit m c ≡ 1 = omega (arith, bit-lt m c) in
-          omega (arith, a c l (shown (mask c l) one)))
+          omega (arith, a c l (is-set (mask c l) one)))
           (λ g. omega arith)
 
   -- `free & !cycles`

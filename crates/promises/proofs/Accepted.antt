@@ -21,6 +21,7 @@ use Rattle.filling.proofs.FewestLaws.{fewest}
 use Rattle.filling.proofs.DrawnLaws.{each-frame, filled-drawn, filled-used, filled-shown}
 use Rattle.planner.proofs.PlannedLaws.{kept-seven}
 use Rattle.promises.specs.Shows.{frameOf, ageOf}
+use Rattle.terms.specs.Results.{resultAt}
 use Rattle.promises.specs.Demand2.{AgeShown}
 use Rattle.promises.specs.Tables.{Table}
 use Rattle.promises.specs.Demand3.{AcceptedPlan}
@@ -53,7 +54,7 @@ module _ {s : Settings} {list : List ℕ} {place : ℕ} {word : ℕ → ℕ} (f 
   pub frames-shown : EachTo (count list) (λ i. FrameInRange (s .slots) (frameOf word i))
   frames-shown = drawn .frames
 
-  pub ages-shown : EachTo (count list) (λ i. AgeShown s (signalAt list i) (frameOf word i) (ageOf word i))
+  pub ages-shown : EachTo (count list) (λ i. AgeShown s (signalAt list i) (resultAt word i))
   ages-shown i b =
       record {
         releases = releases (signalAt list i .offset) (signalAt list i .period) (f .signals i b .period .0);

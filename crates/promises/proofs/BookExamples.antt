@@ -103,13 +103,13 @@ first-block-no p f = lowest-not-each (blocksIn case1-book) (λ i. KindRight case
 -- ---- what is given back
 
 pub given-back-yes : GivenBack (asked case1) (7 ∷ 7 ∷ 7 ∷ 7 ∷ 7 ∷ 7 ∷ []) settings
-    (record { number = 0; place = 1; lent = 1 ∷ 2500 ∷ 0 ∷ 16 ∷ 2500 ∷ 7 ∷ [] })
+    (record { number = 0; place = 1; lent = case1 ++ (7 ∷ []) })
 given-back-yes = record { accepted = refl; signals = refl; settings = refl; words = refl }
 
 -- a reader that writes over what lies behind
 pub given-back-no :
     GivenBack (asked case1) (7 ∷ 7 ∷ 7 ∷ 7 ∷ 7 ∷ 7 ∷ []) settings
-    (record { number = 0; place = 1; lent = 1 ∷ 2500 ∷ 0 ∷ 16 ∷ 2500 ∷ 0 ∷ [] }) → ⊥
+    (record { number = 0; place = 1; lent = case1 ++ (0 ∷ []) }) → ⊥
 given-back-no h = omega (arith, ap (λ (l : List ℕ). getD l 5 0) (h .words))
 
 -- the book given back, and a writer that refuses

@@ -2,7 +2,7 @@
 -- "Examples with numbers". `NotVacuous` has what speaks of plans, and `BookExamples` what speaks of rows and books.
 -- Assumes nothing.
 use mathlib.Core.Path.{_≡_, refl, ap}
-use mathlib.Core.List.{List, [], _∷_}
+use mathlib.Core.List.{List, [], _∷_, _++_}
 use mathlib.Core.Logic.{inl, inr}
 use Prim.Native.Nat.{ℕ, zero, suc, _^_, _≤_, _<_}
 use native.Mathlib.Omega.{arith}
@@ -26,7 +26,7 @@ use Rattle.book.specs.Words.{AllBelow}
 use Rattle.book.specs.Blocks.{AreWords}
 use Rattle.promises.specs.Demand2.{Releases, StartsAt, Behind}
 use Rattle.promises.specs.Changes.{RaisedSignal, Eased}
-use Rattle.promises.proofs.Inputs.{settings, fresh, stale, case1, case3, twice}
+use Rattle.promises.proofs.Inputs.{settings, fresh, stale, listOf, case1, case3, twice}
 use Rattle.promises.proofs.Named.{fresh-valid, fresh-keeps, stale-gets, one, at-one, slot1, case1-count, settings-words}
 use Rattle.promises.proofs.Releasing.{releases}
 use Rattle.promises.proofs.Clock.{starts-named}
@@ -204,10 +204,10 @@ behind-no h = omega (arith, h .1 1 (lit≤ tt))
 
 -- case 1 with a bound of 2,000; and the signal of case 3 before it
 abbrev lower : List ℕ
-lower = 1 ∷ 2500 ∷ 0 ∷ 16 ∷ 2000 ∷ []
+lower = listOf (record { unit = 1; period = 2500; offset = 0; size = 16; bound = 2000 } ∷ [])
 
 abbrev easedFrom : List ℕ
-easedFrom = 1 ∷ 2500 ∷ 15 ∷ 16 ∷ 2500 ∷ lower
+easedFrom = case3 ++ lower
 
 pub raised-yes : RaisedSignal (signalAt lower 1) fresh
 raised-yes = record { unit = refl; period = refl; offset = refl; size = refl; raised = lit≤ tt; most = lit≤ tt }

@@ -13,7 +13,7 @@ use Rattle.terms.specs.Lists.{groupOf}
 use Rattle.cycles.specs.Frames.{Sends}
 use Rattle.filling.specs.Drawn.{Before, InUse, FillingShown}
 use Rattle.promises.specs.Shows.{frameOf}
-use Rattle.promises.proofs.Inputs.{case1, words, slot-two}
+use Rattle.promises.proofs.Inputs.{fresh, half, listOf, resultsOf, result, case1, words, slot-two}
 use Rattle.promises.proofs.Named.{at-one}
 
 -- the frames that results show; ages play no part
@@ -22,15 +22,15 @@ shows results = frameOf (words results)
 
 -- one signal each of units 1 and 2; three signals of unit 1
 abbrev two-units : List ℕ
-two-units = 1 ∷ 2500 ∷ 0 ∷ 16 ∷ 2500 ∷ 2 ∷ 2500 ∷ 0 ∷ 16 ∷ 2500 ∷ []
+two-units = listOf (fresh ∷ record { unit = 2; period = 2500; offset = 0; size = 16; bound = 2500 } ∷ [])
 
 abbrev thrice : List ℕ
-thrice = 1 ∷ 5000 ∷ 0 ∷ 16 ∷ 5000 ∷ 1 ∷ 5000 ∷ 0 ∷ 16 ∷ 5000 ∷ 1 ∷ 5000 ∷ 0 ∷ 16 ∷ 5000 ∷ []
+thrice = listOf (half ∷ half ∷ half ∷ [])
 
 -- ---- case 10: "One unit, repetitions 4, 2, 4 in list order: bases 1, 0, 3, one full slot."
 
 abbrev case10 : ℕ → Frame
-case10 = shows (1 ∷ 1 ∷ 4 ∷ 0 ∷ 1 ∷ 0 ∷ 2 ∷ 0 ∷ 1 ∷ 3 ∷ 4 ∷ 0 ∷ [])
+case10 = shows (resultsOf (result 1 1 4 0 ∷ result 1 0 2 0 ∷ result 1 3 4 0 ∷ []))
 
 -- equal repetitions go by place in the list
 pub before-yes : Before (groupOf thrice) case10 1 3
@@ -98,7 +98,7 @@ filling-yes =
 -- ---- one wrong plan for each sentence
 
 -- unit 2 before unit 1
-pub units-no : FillingShown 2 (groupOf two-units) (shows (2 ∷ 0 ∷ 1 ∷ 0 ∷ 1 ∷ 0 ∷ 1 ∷ 0 ∷ [])) → ⊥
+pub units-no : FillingShown 2 (groupOf two-units) (shows (resultsOf (result 2 0 1 0 ∷ result 1 0 1 0 ∷ []))) → ⊥
 units-no h = omega (arith, h .units 1 2 (lit≤ tt, lit≤ tt) (lit≤ tt, lit≤ tt) (lit≤ tt))
 
 -- one slot, but not the lowest
@@ -108,12 +108,12 @@ lowest-slot-no h =
     omega (arith, at-one (λ i. shows slot-two i .slot ≡ 2) refl (first .0) (first .1), first .2)
 
 -- in list order, repetitions 4, 4, 2: the frame of repetition 2 comes too late for the first slot
-pub onward-no : FillingShown 3 (groupOf thrice) (shows (1 ∷ 0 ∷ 4 ∷ 0 ∷ 1 ∷ 1 ∷ 4 ∷ 0 ∷ 2 ∷ 0 ∷ 2 ∷ 0 ∷ [])) → ⊥
+pub onward-no : FillingShown 3 (groupOf thrice) (shows (resultsOf (result 1 0 4 0 ∷ result 1 1 4 0 ∷ result 2 0 2 0 ∷ []))) → ⊥
 onward-no h = omega (arith, h .onward 3 1 (lit≤ tt, lit≤ tt) (lit≤ tt, lit≤ tt) (refl, inl (lit≤ tt)))
 
 -- three of repetition 2: one in slot 1 and two in slot 2, as few slots as any, but slot 1 was left half empty
 abbrev half-left : List ℕ
-half-left = 1 ∷ 0 ∷ 2 ∷ 0 ∷ 2 ∷ 0 ∷ 2 ∷ 0 ∷ 2 ∷ 1 ∷ 2 ∷ 0 ∷ []
+half-left = resultsOf (result 1 0 2 0 ∷ result 2 0 2 0 ∷ result 2 1 2 0 ∷ [])
 
 pub full-no : FillingShown 3 (groupOf thrice) (shows half-left) → ⊥
 full-no h =
@@ -126,7 +126,7 @@ full-no h =
 
 -- the second cycle, where the first is free
 abbrev late : ℕ → Frame
-late = shows (1 ∷ 1 ∷ 2 ∷ 0 ∷ [])
+late = shows (resultsOf (result 1 1 2 0 ∷ []))
 
 pub first-free-no : FillingShown 1 (groupOf case1) late → ⊥
 first-free-no h =

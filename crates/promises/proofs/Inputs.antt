@@ -1,9 +1,11 @@
 -- Named inputs, most from "Examples with numbers", and what wrong programs give of them.
 use mathlib.Core.List.{List, [], _∷_, _++_}
-use Prim.Native.Nat.{ℕ}
+use Prim.Native.Nat.{ℕ, _/_, _%_}
 use lib.ListN.{getD, replicate}
 use Rattle.terms.specs.declared.Settings.{Settings}
 use Rattle.terms.specs.declared.Signal.{Signal}
+use Rattle.terms.specs.declared.Result.{Result}
+use Rattle.terms.specs.Results.{wordsOf}
 use Rattle.terms.specs.Requests.{Request, request}
 use Rattle.book.specs.Blocks.{bookOf}
 
@@ -24,21 +26,34 @@ stale = record { unit = 1; period = 2500; offset = 15; size = 16; bound = 2500 }
 abbrev pub half : Signal
 half = record { unit = 1; period = 5000; offset = 0; size = 16; bound = 5000 }
 
+-- the list of signals, and the words of results
+abbrev pub listOf : List Signal → List ℕ
+listOf [] = []
+listOf (x ∷ xs) = x .unit ∷ x .period ∷ x .offset ∷ x .size ∷ x .bound ∷ listOf xs
+
+abbrev pub resultsOf : List Result → List ℕ
+resultsOf [] = []
+resultsOf (r ∷ rs) = wordsOf r ++ resultsOf rs
+
+abbrev pub result : (slot base repetition age : ℕ) → Result
+result slot base repetition age =
+    record { frame = record { slot = slot; base = base; repetition = repetition }; age = age }
+
 -- the lists of these signals, the first and the last also twice
 abbrev pub case1 : List ℕ
-case1 = 1 ∷ 2500 ∷ 0 ∷ 16 ∷ 2500 ∷ []
+case1 = listOf (fresh ∷ [])
 
 abbrev pub case3 : List ℕ
-case3 = 1 ∷ 2500 ∷ 15 ∷ 16 ∷ 2500 ∷ []
+case3 = listOf (stale ∷ [])
 
 abbrev pub twice : List ℕ
-twice = 1 ∷ 2500 ∷ 0 ∷ 16 ∷ 2500 ∷ 1 ∷ 2500 ∷ 0 ∷ 16 ∷ 2500 ∷ []
+twice = listOf (fresh ∷ fresh ∷ [])
 
 abbrev pub single : List ℕ
-single = 1 ∷ 5000 ∷ 0 ∷ 16 ∷ 5000 ∷ []
+single = listOf (half ∷ [])
 
 abbrev pub pair : List ℕ
-pair = 1 ∷ 5000 ∷ 0 ∷ 16 ∷ 5000 ∷ 1 ∷ 5000 ∷ 0 ∷ 16 ∷ 5000 ∷ []
+pair = listOf (half ∷ half ∷ [])
 
 -- a lent table of 93 slots, all 0
 abbrev pub blank : List ℕ
@@ -51,7 +66,7 @@ words results p = getD results p 0
 -- ---- the plan of case 1: slot 1, base 0, repetition 1, age 16, in all 64 cycles
 
 abbrev pub case1-results : List ℕ
-case1-results = 1 ∷ 0 ∷ 1 ∷ 16 ∷ []
+case1-results = resultsOf (result 1 0 1 16 ∷ [])
 
 abbrev pub case1-cells : List ℕ
 case1-cells = replicate 64 1 ++ replicate 5888 0
@@ -60,31 +75,32 @@ case1-cells = replicate 64 1 ++ replicate 5888 0
 
 -- of case 1: repetition 64, with its true age there, over the bound of 2,500
 abbrev pub sixty-four : List ℕ
-sixty-four = 1 ∷ 0 ∷ 64 ∷ 157516 ∷ []
+sixty-four = resultsOf (result 1 0 64 157516 ∷ [])
 
 -- .. and a plan of one slot, but the second
 abbrev pub slot-two : List ℕ
-slot-two = 2 ∷ 0 ∷ 1 ∷ 32 ∷ []
+slot-two = resultsOf (result 2 0 1 32 ∷ [])
 
 -- of `single`: repetition 1
 abbrev pub often : List ℕ
-often = 1 ∷ 0 ∷ 1 ∷ 16 ∷ []
+often = resultsOf (result 1 0 1 16 ∷ [])
 
 -- of `twice`: the first placed truly, in slot 1, and the second shown at the same place
 abbrev pub invented : List ℕ
-invented = 1 ∷ 0 ∷ 1 ∷ 16 ∷ 1 ∷ 0 ∷ 1 ∷ 16 ∷ []
+invented = resultsOf (result 1 0 1 16 ∷ result 1 0 1 16 ∷ [])
+
+-- little-endian words
+abbrev pub bytesOf : List ℕ → List ℕ
+bytesOf [] = []
+bytesOf (w ∷ ws) = w % 256 ∷ w / 256 % 256 ∷ w / 65536 % 256 ∷ w / 16777216 ∷ bytesOf ws
 
 -- of `pair` in bytes, where one slot is enough: slots 1 and 2, both with base 0 and repetition 2
 abbrev pub spread : List ℕ
-spread =
-    1 ∷ 0 ∷ 0 ∷ 0 ∷ 0 ∷ 0 ∷ 0 ∷ 0 ∷ 2 ∷ 0 ∷ 0 ∷ 0 ∷ 16 ∷ 0 ∷ 0 ∷ 0
-    ∷ 2 ∷ 0 ∷ 0 ∷ 0 ∷ 0 ∷ 0 ∷ 0 ∷ 0 ∷ 2 ∷ 0 ∷ 0 ∷ 0 ∷ 32 ∷ 0 ∷ 0 ∷ 0 ∷ []
+spread = bytesOf (resultsOf (result 1 0 2 16 ∷ result 2 0 2 32 ∷ []))
 
 -- .. and slot 1 with base 0 and repetition 1, and with base 1 and repetition 2: both name cycle 1
 abbrev pub colliding : List ℕ
-colliding =
-    1 ∷ 0 ∷ 0 ∷ 0 ∷ 0 ∷ 0 ∷ 0 ∷ 0 ∷ 1 ∷ 0 ∷ 0 ∷ 0 ∷ 16 ∷ 0 ∷ 0 ∷ 0
-    ∷ 1 ∷ 0 ∷ 0 ∷ 0 ∷ 1 ∷ 0 ∷ 0 ∷ 0 ∷ 2 ∷ 0 ∷ 0 ∷ 0 ∷ 212 ∷ 9 ∷ 0 ∷ 0 ∷ []
+colliding = bytesOf (resultsOf (result 1 0 1 16 ∷ result 1 1 2 2516 ∷ []))
 
 -- ---- books
 

@@ -104,10 +104,10 @@ module _ (l : PlanRoom) (cells : 5952 ≤ length (l .cells)) where
   ready list whole signals results =
       record { settings = fresh-valid .settings; whole = whole; signals = signals; enough = (cells, results) }
 
-  pub case1-ready : 4 ≤ length (l .results) → Ready overWords (asked case1) l
+  pub case1-ready : resultSize ≤ length (l .results) → Ready overWords (asked case1) l
   case1-ready = ready case1 case1-count (at-one (λ i. SignalInRange settings (signalAt case1 i)) (fresh-valid .signal))
 
-  pub case3-ready : 4 ≤ length (l .results) → Ready overWords (asked case3) l
+  pub case3-ready : resultSize ≤ length (l .results) → Ready overWords (asked case3) l
   case3-ready =
       ready case3 (record { whole = refl; few = lit≤ tt })
       (at-one (λ i. SignalInRange settings (signalAt case3 i)) (stale-valid .signal))

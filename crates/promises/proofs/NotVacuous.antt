@@ -35,7 +35,8 @@ use Rattle.promises.specs.Tables.{Table, slotsShown}
 use Rattle.promises.specs.Demand1.{Demand1Planning}
 use Rattle.promises.specs.Demand2.{AgeShown, TableShown, Demand2Planning}
 use Rattle.promises.specs.Demand3.{AcceptedPlan, Ready, Demand3}
-use Rattle.promises.proofs.Inputs.{settings, asked, fresh, case1, case3, single, blank}
+use Rattle.terms.specs.Results.{resultSize}
+use Rattle.promises.proofs.Inputs.{settings, asked, fresh, result, case1, case3, single, blank}
 use Rattle.promises.proofs.Inputs.{words, case1-results, case1-cells, sixty-four, invented, case1-book}
 use Rattle.promises.proofs.Named.{Gets, fresh-valid, fresh-gets, half-gets, fresh-keeps, every, at-one, alone, slot1, slot1-in-range}
 use Rattle.promises.proofs.Named.{case1-table, case1-count, ready, case1-ready, case3-ready, case1-holds}
@@ -93,7 +94,7 @@ age = ageOf (words case1-results)
 in-range : EachTo 1 (λ i. FrameInRange 93 (frame i))
 in-range = at-one (λ i. FrameInRange 93 (frame i)) slot1-in-range
 
-pub age-shown-yes : AgeShown settings fresh (frame 1) 16
+pub age-shown-yes : AgeShown settings fresh (result 1 0 1 16)
 unfolding euclid
 age-shown-yes =
     record {
@@ -104,7 +105,7 @@ age-shown-yes =
     }
 
 -- no age of a frame that is none of the segment
-pub age-shown-no : (age : ℕ) → AgeShown settings fresh (record { slot = 94; repetition = 1; base = 0 }) age → ⊥
+pub age-shown-no : (age : ℕ) → AgeShown settings fresh (result 94 0 1 age) → ⊥
 age-shown-no age h = omega (arith, h .frame .slot)
 
 -- slot 1 shows signal 1 in every cycle, and the others nothing
@@ -211,7 +212,7 @@ accepted-no-two h = omega (arith, h .used, accepted-yes .used)
 module _ (Gives : Routine Request PlanRoom) (l : PlanRoom) (y : Return PlanRoom)
     (cells : 5952 ≤ length (l .cells)) where
   -- case 1 is accepted, in one slot
-  pub case1-accepted : Demand3 overWords Gives → 4 ≤ length (l .results) → Gives (asked case1) l y
+  pub case1-accepted : Demand3 overWords Gives → resultSize ≤ length (l .results) → Gives (asked case1) l y
       → (y .number ≡ 0) × (y .place ≡ 1)
   case1-accepted keeps results g =
       let number : y .number ≡ 0 = dite (ℕ-discrete (y .number) 0) (λ e. e)
@@ -220,7 +221,7 @@ module _ (Gives : Routine Request PlanRoom) (l : PlanRoom) (y : Return PlanRoom)
       (number, omega (arith, a .fewest (λ i. slot1) case1-table, uses-one, one-least _ (a .table), a .used))
 
   -- case 3 is refused with 8, at signal 1
-  pub case3-refused : Demand1Planning Gives → 4 ≤ length (l .results) → Gives (asked case3) l y
+  pub case3-refused : Demand1Planning Gives → resultSize ≤ length (l .results) → Gives (asked case3) l y
       → (y .number ≡ 8) × (y .place ≡ 1)
   case3-refused keeps results g =
       let h = case3-ready l cells results in

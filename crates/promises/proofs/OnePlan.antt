@@ -187,7 +187,7 @@ one-filling s list p q frame frame′ age age′ a a′ f f′ =
 pub record ShownPlan (s : Settings) (list : List ℕ) (place : ℕ) (word : ℕ → ℕ) : Type 0 where
   pub accepted : AcceptedPlan s list place (frameOf word) (ageOf word)
   pub filling : FillingShown (count list) (groupOf list) (frameOf word)
-  pub ages : EachTo (count list) (λ i. AgeShown s (signalAt list i) (frameOf word i) (ageOf word i))
+  pub ages : EachTo (count list) (λ i. AgeShown s (signalAt list i) (resultAt word i))
 
 module _
     {s : Settings}

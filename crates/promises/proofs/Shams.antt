@@ -33,6 +33,7 @@ use Rattle.promises.specs.Demand1.{Demand1Reading, Demand1Writing}
 use Rattle.promises.specs.Demand2.{Demand2Planning, Demand2Editor, Demand2Books}
 use Rattle.promises.specs.Demand3.{AcceptedPlan, Demand3}
 use Rattle.promises.specs.Filling.{ShowsFilling}
+use Rattle.terms.specs.Results.{resultSize}
 use Rattle.promises.proofs.Inputs.{settings, asked, fresh, half, case1, twice, single, pair, blank, words}
 use Rattle.promises.proofs.Inputs.{sixty-four, slot-two, often, invented, spread, colliding, case1-book, pair-book, exchanged}
 use Rattle.promises.proofs.Named.{half-gets, every, slot1, case1-table, case1-count, case1-ready, case1-holds, pair-holds}
@@ -85,7 +86,7 @@ module _ (Gives : Routine Request PlanRoom) where
 
   module _ (keeps : Demand3 overWords Gives) (l : PlanRoom) (y : Return PlanRoom) where
     -- refuses all lists: case 1 has a table
-    pub refuses-all : 5952 ≤ length (l .cells) → 4 ≤ length (l .results) → Gives (asked case1) l y
+    pub refuses-all : 5952 ≤ length (l .cells) → resultSize ≤ length (l .results) → Gives (asked case1) l y
         → (y .number ≡ 0 → ⊥) → ⊥
     refuses-all cells results g n =
         keeps .refused-exactly (asked case1) l y g (case1-ready l cells results) .0 n (λ i. slot1) case1-table

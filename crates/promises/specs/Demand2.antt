@@ -14,7 +14,8 @@ use Rattle.terms.specs.Ranges.{FrameInRange}
 use Rattle.age.specs.Age.{Start, Release, firstStart, spanOf, Age}
 use Rattle.terms.specs.Requests.{Request, PlanRoom}
 use Rattle.terms.specs.Lists.{signalSize, count, signalAt}
-use Rattle.terms.specs.Results.{resultSize}
+use Rattle.terms.specs.declared.Result.{Result}
+use Rattle.terms.specs.Results.{resultSize, resultAt}
 use Rattle.cycles.specs.Frames.{Sends}
 use Rattle.filling.specs.ShownPlan.{cellOf}
 use Rattle.editor.specs.Rows.{resultBytes}
@@ -23,7 +24,7 @@ use Rattle.book.specs.Blocks.{AreWords, blocksFor, bookOf}
 use Rattle.book.specs.Reading.{signalsOf, settingsIn, fiveZeros, listIn}
 use Rattle.promises.specs.Calls.{Return, Routine, Always, WhereDone}
 use Rattle.promises.specs.Tables.{slotsShown}
-use Rattle.promises.specs.Shows.{frameOf, ageOf, Planning, overWords, fromBook}
+use Rattle.promises.specs.Shows.{frameOf, Planning, overWords, fromBook}
 
 -- "Releases fall exactly at offset plus whole periods, for ever." `Release` says so; hence the first is at the offset, each is
 -- followed by one a period later with none between, and there is one after any time
@@ -40,11 +41,11 @@ StartsAt s At t = (n k : ℕ) × At k (n % 64) × (t ≡ n * s .cycle + (k - 1) 
 
 -- "The age shown is the largest, over all of them, from release to the end of the first frame that starts at least the packing
 -- time later." The frame is one of the segment, and its starts are the cycles that its base and repetition name
-pub record AgeShown (s : Settings) (x : Signal) (f : Frame) (age : ℕ) : Type 0 where
+pub record AgeShown (s : Settings) (x : Signal) (r : Result) : Type 0 where
   pub releases : Releases (x .offset) (x .period)
-  pub frame : FrameInRange (s .slots) f
-  pub starts : (t : ℕ) → Start (firstStart s f) (spanOf s f) t ↔ StartsAt s (Sends f) t
-  pub is-age : Age s x f age
+  pub frame : FrameInRange (s .slots) (r .frame)
+  pub starts : (t : ℕ) → Start (firstStart s (r .frame)) (spanOf s (r .frame)) t ↔ StartsAt s (Sends (r .frame)) t
+  pub is-age : Age s x (r .frame) (r .age)
 
 -- "The table shows each frame in the cycles that its base and repetition name, and nowhere else." Of the frames of m signals. So
 -- table and clock are one: the starts of a frame are the cells that show its signal
@@ -71,7 +72,7 @@ Behind n entry exit = (length exit ≡ length entry) × ((j : ℕ) → n ≤ j �
 abbrev pub Ages : {Asked Room : Type 0} → Planning Asked Room → Asked → Room → Type 0
 Ages p x l =
     (i : ℕ) → Between 1 (count (p .list x)) i →
-    AgeShown (p .settings x) (signalAt (p .list x) i) (frameOf (p .word l) i) (ageOf (p .word l) i)
+    AgeShown (p .settings x) (signalAt (p .list x) i) (resultAt (p .word l) i)
 
 pub record Demand2Planning (Gives : Routine Request PlanRoom) : Type 0 where
   pub ages : WhereDone Gives (λ x l y. Ages overWords x (y .lent))

@@ -63,13 +63,13 @@ table-no frame t =
     let b : Between 1 1 1 = (lit≤ tt, lit≤ tt) in
     kept-no (frame 1 .repetition, t .drawn .frames 1 b .repetition, t .keeps 1 b)
 
-pub ready-yes : Ready overWords (asked case1) (planRoom blank (0 ∷ 0 ∷ 0 ∷ 0 ∷ []))
-ready-yes = case1-ready (planRoom blank (0 ∷ 0 ∷ 0 ∷ 0 ∷ [])) (omega (arith, length-replicate {A = ℕ} 5952 0)) (lit≤ tt)
+pub ready-yes : Ready overWords (asked case1) (planRoom blank case1-results)
+ready-yes = case1-ready (planRoom blank case1-results) (omega (arith, length-replicate {A = ℕ} 5952 0)) (lit≤ tt)
 
 pub ready-no : Ready overWords (asked case1) (planRoom blank []) → ⊥
 ready-no h = omega (arith, h .enough .1)
 
-pub ready-book-yes : Ready fromBook case1-book (replicate 16 0)
+pub ready-book-yes : Ready fromBook case1-book (replicate (4 * resultSize) 0)
 ready-book-yes =
     record {
       settings = subst SettingsInRange (sym (case1-holds .settings-in)) (fresh-valid .settings);
@@ -79,7 +79,7 @@ ready-book-yes =
           (subst (λ (l : List ℕ). EachSignal l (SignalInRange settings)) (sym (case1-holds .list-in)) each-yes);
       enough = (
         case1-holds .sound,
-        omega (arith, ap (λ (l : List ℕ). count l) (case1-holds .list-in), length-replicate {A = ℕ} 16 0),
+        omega (arith, ap (λ (l : List ℕ). count l) (case1-holds .list-in), length-replicate {A = ℕ} (4 * resultSize) 0),
       );
     }
 

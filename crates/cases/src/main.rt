@@ -70,7 +70,7 @@ fn put_signal(list: &mut [u32], i: usize) {
     if 10 <= i % 20 {
         period = 10000;
     }
-    let at = 5 * (i % 80);
+    let at = terms::SIGNAL_WORDS * (i % 80);
     put(list, at, (unit % 256) as u32);
     put(list, at + 1, period);
     put(list, at + 2, 2000);
@@ -89,7 +89,7 @@ fn case_11(list: &mut [u32]) {
 // The case's number, the plan's answer, and the slot and base of its first three signals.
 fn fills(case: u32, s: Settings, list: &[u32]) {
     let mut cells = [0u32; 8192];
-    let mut results = [0u32; 2400];
+    let mut results = [0u32; terms::RESULT_WORDS * terms::MOST_SIGNALS];
     let answer = planner::plan(s, list, &mut cells, &mut results);
     io::write_all(STDOUT_FILENO, b"case ");
     write(case);
@@ -102,13 +102,13 @@ fn fills(case: u32, s: Settings, list: &[u32]) {
     io::write_all(STDOUT_FILENO, b" ");
     write(results[1]);
     io::write_all(STDOUT_FILENO, b", ");
-    write(results[4]);
+    write(results[terms::RESULT_WORDS]);
     io::write_all(STDOUT_FILENO, b" ");
-    write(results[5]);
+    write(results[terms::RESULT_WORDS + 1]);
     io::write_all(STDOUT_FILENO, b", ");
-    write(results[8]);
+    write(results[2 * terms::RESULT_WORDS]);
     io::write_all(STDOUT_FILENO, b" ");
-    write(results[9]);
+    write(results[2 * terms::RESULT_WORDS + 1]);
     io::write_all(STDOUT_FILENO, b"\n");
 }
 

@@ -8,7 +8,7 @@
  * on, as many as the length behind it says. The two lent to one call do not overlap. A pointer is never null, also
  * where the length is 0.
  *
- * Stack needed: less than 128 KiB. noctelvia_plan takes most, 81,272 bytes; every other call takes less than 32 KiB.
+ * Stack needed: less than 128 KiB. noctelvia_plan takes most; every other call takes less than 32 KiB.
  *
  * Example: the repetition of a signal, and its age in slot 7 at base 0.
  *

@@ -8,9 +8,6 @@ use Rattle.age.specs.AgeGiven.{InRange}
 use Rattle.age.proofs.age.Statement.{statement}
 use Rattle.age.proofs.age.Tie as tie
 
-in-range-requires : tie.Need-in-range-requires
-in-range-requires c κs = search needs
-
 returns : tie.Need-returns
 returns c =
     let a = c .before .before .args in
@@ -28,4 +25,4 @@ returns-2 c =
     (granted (judged .in-range .result) (judged .in-range .ensures) (c .before .if1 .left)) (c .age-in-range .ensures)
 
 pub age-spec : {M : Type 1} → statement M
-age-spec = tie.close (tie.spec in-range-requires returns age-in-range-requires returns-2)
+age-spec = tie.close (tie.spec (λ c κs. search needs) returns age-in-range-requires returns-2)

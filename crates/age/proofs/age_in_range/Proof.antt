@@ -19,9 +19,6 @@ mul-first c =
     let most = repetition-most (start .args .f .repetition) (start .pre .frame .repetition) in
     record { fits = product-below 64 16000 (omega (arith, most)) (omega arith) (lit< tt) }
 
-sub-first : tie.Need-sub-first
-sub-first c = search needs
-
 mul-first-2 : tie.Need-mul-first-2
 mul-first-2 c = record { fits = product-below 128 16000 (omega arith) (omega arith) (lit< tt) }
 
@@ -48,10 +45,8 @@ add-first c =
 by-formula-requires : tie.Need-by-formula-requires
 by-formula-requires c κs = numbers c
 
-returns : tie.Need-returns
-returns c = search needs
-
 pub age-in-range-spec : {M : Type 1} → statement M
 age-in-range-spec =
     tie.close
-    (tie.spec mul-span mul-first sub-first mul-first-2 add-first by-formula-requires returns)
+    (tie.spec mul-span mul-first (λ c. search needs) mul-first-2 add-first by-formula-requires
+    (λ c. search needs))

@@ -8,24 +8,15 @@ use Rattle.age.proofs.AgeGivenLaws.{longest-given-most, given-age}
 use Rattle.age.proofs.by_formula.Statement.{statement}
 use Rattle.age.proofs.by_formula.Tie as tie
 
-gcd-requires : tie.Need-gcd-requires
-gcd-requires c κs = search needs
-
 rem-ahead : tie.Need-rem-ahead
 rem-ahead c = gcd-positive _ _ (c .gcd .result) (c .gcd .ensures) (omega arith)
 
 sub-ahead : tie.Need-sub-ahead
 sub-ahead c = omega (arith, mod-lt (c .before .args .offset) (rem-ahead c))
 
-add-longest-wait : tie.Need-add-longest-wait
-add-longest-wait c = search needs
-
 add-longest-wait-2 : tie.Need-add-longest-wait-2
 add-longest-wait-2 c =
     omega (arith, divisor-at-most (c .gcd .result) (c .before .args .span) (c .gcd .ensures .right) (omega arith))
-
-longest-wait-requires : tie.Need-longest-wait-requires
-longest-wait-requires c κs = search needs
 
 add-result : tie.Need-add-result
 add-result c = omega (arith, longest-given-most _ _ _ (c .longest-wait .result) (c .longest-wait .ensures))
@@ -39,12 +30,5 @@ returns c =
 pub by-formula-spec : {M : Type 1} → statement M
 by-formula-spec =
     tie.close
-    (tie.spec
-    gcd-requires
-    rem-ahead
-    sub-ahead
-    add-longest-wait
-    add-longest-wait-2
-    longest-wait-requires
-    add-result
-    returns)
+    (tie.spec (λ c κs. search needs) rem-ahead sub-ahead (λ c. search needs) add-longest-wait-2
+    (λ c κs. search needs) add-result returns)

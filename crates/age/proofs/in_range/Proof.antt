@@ -5,14 +5,8 @@ use Rattle.laws.proofs.SaysLaws.{granted, refused}
 use Rattle.age.proofs.in_range.Statement.{statement}
 use Rattle.age.proofs.in_range.Tie as tie
 
-valid-requires : tie.Need-valid-requires
-valid-requires c κs = search needs
-
 returns : tie.Need-returns
 returns c = λ r. refused (c .before .valid .result) (c .before .valid .ensures) (c .if1 .taken) (r .valid)
-
-frame-in-range-requires : tie.Need-frame-in-range-requires
-frame-in-range-requires c κs = search needs
 
 returns-2 : tie.Need-returns-2
 returns-2 c = λ r. refused (c .before .frame-in-range .result) (c .before .frame-in-range .ensures) (c .if2 .taken) (r .frame)
@@ -26,4 +20,4 @@ returns-3 c =
     }
 
 pub in-range-spec : {M : Type 1} → statement M
-in-range-spec = tie.close (tie.spec valid-requires returns frame-in-range-requires returns-2 returns-3)
+in-range-spec = tie.close (tie.spec (λ c κs. search needs) returns (λ c κs. search needs) returns-2 returns-3)

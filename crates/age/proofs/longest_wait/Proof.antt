@@ -8,24 +8,6 @@ use Rattle.age.proofs.FormulaLaws.{longest-from-top}
 use Rattle.age.proofs.longest_wait.Statement.{statement}
 use Rattle.age.proofs.longest_wait.Tie as tie
 
-returns : tie.Need-returns
-returns c = search needs
-
-rem-d : tie.Need-rem-d
-rem-d c = search needs
-
-returns-2 : tie.Need-returns-2
-returns-2 c = search needs
-
-sub-top : tie.Need-sub-top
-sub-top c = search needs
-
-sub-result : tie.Need-sub-result
-sub-result c = search needs
-
-rem-result : tie.Need-rem-result
-rem-result c = search needs
-
 sub-result-2 : tie.Need-sub-result-2
 sub-result-2 c = le-trans (mod-le _ _) (omega arith)
 
@@ -41,4 +23,5 @@ returns-3 c =
 pub longest-wait-spec : {M : Type 1} → statement M
 longest-wait-spec =
     tie.close
-    (tie.spec returns rem-d returns-2 sub-top sub-result rem-result sub-result-2 returns-3)
+    (tie.spec (λ c. search needs) (λ c. search needs) (λ c. search needs) (λ c. search needs)
+    (λ c. search needs) (λ c. search needs) sub-result-2 returns-3)

@@ -37,13 +37,4 @@ returns c = omega arith
 pub case-11-spec : {M : Type 1} → statement M
 case-11-spec =
     tie.close
-    (tie.spec
-    Inv-loop
-    μ-loop
-    loop-holds
-    put-signal-requires
-    add-i
-    loop-less
-    loop-again
-    same-length
-    returns)
+    (tie.spec Inv-loop μ-loop loop-holds put-signal-requires add-i loop-less loop-again same-length returns)

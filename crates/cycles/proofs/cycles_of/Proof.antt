@@ -12,9 +12,6 @@ use Rattle.cycles.proofs.OperationLaws.{shifted}
 use Rattle.cycles.proofs.cycles_of.Statement.{statement}
 use Rattle.cycles.proofs.cycles_of.Tie as tie
 
-is-repetition-requires : tie.Need-is-repetition-requires
-is-repetition-requires c κs = search needs
-
 returns : tie.Need-returns
 returns c =
     let a = c .before .before .args in
@@ -25,9 +22,6 @@ returns-2 : tie.Need-returns-2
 returns-2 c =
     let a = c .before .before .before .args in
     mask-none (Names (a .repetition) (a .base)) (λ k n. omega (arith, n .base))
-
-pattern-requires : tie.Need-pattern-requires
-pattern-requires c κs = search needs
 
 seven : (c : tie.Else1) → Repetition (c .before .before .args .repetition)
 seven c = granted (c .before .is-repetition .result) (c .before .is-repetition .ensures) (c .if1 .left)
@@ -40,4 +34,4 @@ returns-3 c = shifted (c .pattern .result) (seven (c .before .before)) (c .befor
 
 pub cycles-of-spec : {M : Type 1} → statement M
 cycles-of-spec =
-    tie.close (tie.spec is-repetition-requires returns returns-2 pattern-requires shl-result returns-3)
+    tie.close (tie.spec (λ c κs. search needs) returns returns-2 (λ c κs. search needs) shl-result returns-3)

@@ -10,9 +10,6 @@ use Rattle.cycles.proofs.Patterns.{patterns, exponent-small, pattern-of
 use Rattle.cycles.proofs.pattern.Statement.{statement}
 use Rattle.cycles.proofs.pattern.Tie as tie
 
-is-repetition-requires : tie.Need-is-repetition-requires
-is-repetition-requires c κs = search needs
-
 returns : tie.Need-returns
 returns c =
     mask-none (Multiple (c .before .before .args .repetition))
@@ -36,4 +33,4 @@ returns-2 c = pattern-of (seven c)
 
 pub pattern-spec : {M : Type 1} → statement M
 pattern-spec =
-    tie.close (tie.spec is-repetition-requires returns cast-e mul-result array-read-result returns-2)
+    tie.close (tie.spec (λ c κs. search needs) returns cast-e mul-result array-read-result returns-2)

@@ -22,18 +22,6 @@ use Rattle.editor.proofs.BookLaws.{book-planned}
 use Rattle.editor.proofs.noctelvia_plan.Statement.{statement}
 use Rattle.editor.proofs.noctelvia_plan.Tie as tie
 
-slice-aggregate-read : tie.Need-slice-aggregate-read
-slice-aggregate-read c = search needs
-
-read-requires : tie.Need-read-requires
-read-requires c κs = search needs
-
-number-requires : tie.Need-number-requires
-number-requires c κs = search needs
-
-packed-requires : tie.Need-packed-requires
-packed-requires c κs = search needs
-
 returns : tie.Need-returns
 returns c =
     let n = c .before .before in
@@ -52,15 +40,6 @@ returns c =
           };
       answer = c .packed .ensures;
     }
-
-place-requires : tie.Need-place-requires
-place-requires c κs = search needs
-
-cast-words : tie.Need-cast-words
-cast-words c = search needs
-
-mul-words : tie.Need-mul-words
-mul-words c = search needs
 
 abbrev Read : tie.Else1 → tie.After-read
 Read e = e .before .before .before
@@ -102,12 +81,6 @@ plan-bytes-requires c κs =
     let p = c .before .before in
     subst CountInRange (sym (read-list p)) (list-in-range (Book (p .before .before)) (gives (p .before .before) .sound))
 
-packed-requires-2 : tie.Need-packed-requires-2
-packed-requires-2 c κs = search needs
-
-same-length : tie.Need-same-length
-same-length c = search needs
-
 returns-2 : tie.Need-returns-2
 returns-2 c =
     let call = c .before .before .before in
@@ -127,18 +100,6 @@ returns-2 c =
 pub noctelvia-plan-spec : {M : Type 1} → statement M
 noctelvia-plan-spec =
     tie.close
-    (tie.spec
-    slice-aggregate-read
-    read-requires
-    number-requires
-    packed-requires
-    returns
-    place-requires
-    cast-words
-    mul-words
-    array-share-prefix-list
-    slice-aggregate-plan-bytes
-    plan-bytes-requires
-    packed-requires-2
-    same-length
-    returns-2)
+    (tie.spec (λ c. search needs) (λ c κs. search needs) (λ c κs. search needs) (λ c κs. search needs) returns
+    (λ c κs. search needs) (λ c. search needs) (λ c. search needs) array-share-prefix-list
+    slice-aggregate-plan-bytes plan-bytes-requires (λ c κs. search needs) (λ c. search needs) returns-2)

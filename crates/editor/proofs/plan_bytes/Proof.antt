@@ -25,39 +25,12 @@ asked p = request (Begin p .args .s) (Begin p .args .list .now)
 abbrev lent : tie.After-plan → List ℕ
 lent p = Begin p .args .results .now
 
-slice-aggregate-plan : tie.Need-slice-aggregate-plan
-slice-aggregate-plan c = search needs
-
-slice-aggregate-plan-2 : tie.Need-slice-aggregate-plan-2
-slice-aggregate-plan-2 c = search needs
-
-plan-requires : tie.Need-plan-requires
-plan-requires c κs = search needs
-
-number-requires : tie.Need-number-requires
-number-requires c κs = search needs
-
 returns : tie.Need-returns
 returns c =
     let n = c .before in
     let p = n .before .before .before in
     refused-six (asked p) (lent p) _ (Begin p .pre) (record { cells = omega arith; results = omega arith }) (p .plan .ensures)
     (sym (n .number .ensures) ∙ c .if1 .taken)
-
-count-requires : tie.Need-count-requires
-count-requires c κs = search needs
-
-mul-words : tie.Need-mul-words
-mul-words c = search needs
-
-mul-if2 : tie.Need-mul-if2
-mul-if2 c = search needs
-
-mul-t16 : tie.Need-mul-t16
-mul-t16 c = search needs
-
-cast-t17 : tie.Need-cast-t17
-cast-t17 c = search needs
 
 returns-2 : tie.Need-returns-2
 returns-2 c =
@@ -75,17 +48,8 @@ returns-3 c =
     refused-rest (asked p) (lent p) _ (Begin p .pre) (record { cells = omega arith; results = omega arith }) (p .plan .ensures)
     (λ e. m .before .if1 .left (n .number .ensures ∙ e)) (omega (arith, m .count .ensures)) (λ z. c .if3 .taken (n .number .ensures ∙ z))
 
-array-share-prefix-shown : tie.Need-array-share-prefix-shown
-array-share-prefix-shown c = search needs
-
 slice-aggregate-put-words : tie.Need-slice-aggregate-put-words
 slice-aggregate-put-words c = simp length-take (omega arith)
-
-put-words-requires : tie.Need-put-words-requires
-put-words-requires c κs = search needs
-
-same-length : tie.Need-same-length
-same-length c = search needs
 
 returns-4 : tie.Need-returns-4
 returns-4 c =
@@ -105,21 +69,7 @@ returns-4 c =
 pub plan-bytes-spec : {M : Type 1} → statement M
 plan-bytes-spec =
     tie.close
-    (tie.spec
-    slice-aggregate-plan
-    slice-aggregate-plan-2
-    plan-requires
-    number-requires
-    returns
-    count-requires
-    mul-words
-    mul-if2
-    mul-t16
-    cast-t17
-    returns-2
-    returns-3
-    array-share-prefix-shown
-    slice-aggregate-put-words
-    put-words-requires
-    same-length
+    (tie.spec (λ c. search needs) (λ c. search needs) (λ c κs. search needs) (λ c κs. search needs) returns
+    (λ c κs. search needs) (λ c. search needs) (λ c. search needs) (λ c. search needs) (λ c. search needs)
+    returns-2 returns-3 (λ c. search needs) slice-aggregate-put-words (λ c κs. search needs) (λ c. search needs)
     returns-4)

@@ -5,14 +5,8 @@ use borrow.Author.Needs.{needs}
 use Rattle.noctelvia.proofs.first.Statement.{statement}
 use Rattle.noctelvia.proofs.first.Tie as tie
 
-returns : tie.Need-returns
-returns c = search needs
-
 slice-aggregate-result : tie.Need-slice-aggregate-result
 slice-aggregate-result c = simp length-take (omega arith)
 
-returns-2 : tie.Need-returns-2
-returns-2 c = search needs
-
 pub first-spec : {M : Type 1} → statement M
-first-spec = tie.close (tie.spec returns slice-aggregate-result returns-2)
+first-spec = tie.close (tie.spec (λ c. search needs) slice-aggregate-result (λ c. search needs))

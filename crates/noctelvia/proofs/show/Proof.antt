@@ -52,19 +52,6 @@ returns c = search needs
 pub show-spec : {M : Type 1} → statement M
 show-spec =
     tie.close
-    (tie.spec
-    Inv-loop
-    μ-loop
-    slice-aggregate-write-all
-    write-all-requires
-    spaced-requires
-    spaced-requires-2
-    spaced-requires-3
-    slice-aggregate-write-all-2
-    write-all-requires-2
-    loop-holds
-    add-signal
-    line-requires
-    loop-less
-    loop-again
-    returns)
+    (tie.spec Inv-loop μ-loop slice-aggregate-write-all write-all-requires spaced-requires spaced-requires-2
+    spaced-requires-3 slice-aggregate-write-all-2 write-all-requires-2 loop-holds add-signal line-requires
+    loop-less loop-again returns)

@@ -67,14 +67,4 @@ returns-2 c =
 pub bases-keep-spec : {M : Type 1} → statement M
 bases-keep-spec =
     tie.close
-    (tie.spec
-    Inv-loop
-    μ-loop
-    loop-holds
-    slots-keep-requires
-    returns
-    add-at
-    add-b
-    loop-less
-    loop-again
-    returns-2)
+    (tie.spec Inv-loop μ-loop loop-holds slots-keep-requires returns add-at add-b loop-less loop-again returns-2)

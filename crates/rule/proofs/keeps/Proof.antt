@@ -17,9 +17,6 @@ spans c = span-range (c .args .s) (c .args .x) (c .pre .0) (c .args .r) (c .pre 
 mul-span : tie.Need-mul-span
 mul-span c = let small = spans (c .before) in omega arith
 
-gcd-requires : tie.Need-gcd-requires
-gcd-requires c κs = search needs
-
 rem-ahead : tie.Need-rem-ahead
 rem-ahead c =
     let a = c .before .before .before .args in
@@ -49,4 +46,4 @@ returns c =
 pub keeps-spec : {M : Type 1} → statement M
 keeps-spec =
     tie.close
-    (tie.spec mul-span gcd-requires rem-ahead sub-ahead add-bases-keep bases-keep-requires returns)
+    (tie.spec mul-span (λ c κs. search needs) rem-ahead sub-ahead add-bases-keep bases-keep-requires returns)

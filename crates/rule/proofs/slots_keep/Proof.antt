@@ -65,15 +65,5 @@ returns-2 c =
 pub slots-keep-spec : {M : Type 1} → statement M
 slots-keep-spec =
     tie.close
-    (tie.spec
-    Inv-loop
-    μ-loop
-    loop-holds
-    longest-wait-requires
-    add-if1
-    returns
-    add-at
-    add-k
-    loop-less
-    loop-again
+    (tie.spec Inv-loop μ-loop loop-holds longest-wait-requires add-if1 returns add-at add-k loop-less loop-again
     returns-2)

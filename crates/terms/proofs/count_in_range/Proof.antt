@@ -8,12 +8,6 @@ use borrow.Author.Needs.{needs}
 use Rattle.terms.proofs.count_in_range.Statement.{statement}
 use Rattle.terms.proofs.count_in_range.Tie as tie
 
-returns : tie.Need-returns
-returns c = search needs
-
-count-requires : tie.Need-count-requires
-count-requires c κs = search needs
-
 returns-2 : tie.Need-returns-2
 returns-2 c =
     says (leb (c .count .result) 600)
@@ -21,4 +15,4 @@ returns-2 c =
     (λ e h. omega (arith, leb-false (c .count .result) 600 e, h .few))
 
 pub count-in-range-spec : {M : Type 1} → statement M
-count-in-range-spec = tie.close (tie.spec returns count-requires returns-2)
+count-in-range-spec = tie.close (tie.spec (λ c. search needs) (λ c κs. search needs) returns-2)

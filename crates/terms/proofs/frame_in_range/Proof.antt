@@ -5,20 +5,8 @@ use Rattle.laws.proofs.SaysLaws.{granted, refused}
 use Rattle.terms.proofs.frame_in_range.Statement.{statement}
 use Rattle.terms.proofs.frame_in_range.Tie as tie
 
-returns : tie.Need-returns
-returns c = search needs
-
-returns-2 : tie.Need-returns-2
-returns-2 c = search needs
-
-is-repetition-requires : tie.Need-is-repetition-requires
-is-repetition-requires c κs = search needs
-
 returns-3 : tie.Need-returns-3
 returns-3 c = λ h. refused (c .before .is-repetition .result) (c .before .is-repetition .ensures) (c .if3 .taken) (h .repetition)
-
-returns-4 : tie.Need-returns-4
-returns-4 c = search needs
 
 returns-5 : tie.Need-returns-5
 returns-5 c =
@@ -32,4 +20,5 @@ returns-5 c =
 
 pub frame-in-range-spec : {M : Type 1} → statement M
 frame-in-range-spec =
-    tie.close (tie.spec returns returns-2 is-repetition-requires returns-3 returns-4 returns-5)
+    tie.close (tie.spec (λ c. search needs) (λ c. search needs) (λ c κs. search needs) returns-3 (λ c. search needs)
+    returns-5)

@@ -14,9 +14,6 @@ use Rattle.terms.proofs.is_repetition.Tie as tie
 returns : tie.Need-returns
 returns c = λ h. omega (arith, repetition-positive (c .before .args .r) h)
 
-rem-result : tie.Need-rem-result
-rem-result c = search needs
-
 returns-2 : tie.Need-returns-2
 returns-2 c =
     says (eqb (64 % c .before .args .r) 0)
@@ -24,4 +21,4 @@ returns-2 c =
     (λ e h. eqb-false (64 % c .before .args .r) 0 e (repetition-divides (c .before .args .r) h))
 
 pub is-repetition-spec : {M : Type 1} → statement M
-is-repetition-spec = tie.close (tie.spec returns rem-result returns-2)
+is-repetition-spec = tie.close (tie.spec returns (λ c. search needs) returns-2)

@@ -5,21 +5,6 @@ use borrow.Author.Needs.{needs}
 use Rattle.terms.proofs.put_result.Statement.{statement}
 use Rattle.terms.proofs.put_result.Tie as tie
 
-put-result-word-requires : tie.Need-put-result-word-requires
-put-result-word-requires c κs = search needs
-
-put-result-word-requires-2 : tie.Need-put-result-word-requires-2
-put-result-word-requires-2 c κs = search needs
-
-put-result-word-requires-3 : tie.Need-put-result-word-requires-3
-put-result-word-requires-3 c κs = search needs
-
-put-result-word-requires-4 : tie.Need-put-result-word-requires-4
-put-result-word-requires-4 c κs = search needs
-
-same-length : tie.Need-same-length
-same-length c = search needs
-
 returns : tie.Need-returns
 unfolding storedFrom
 returns c = cc
@@ -27,10 +12,5 @@ returns c = cc
 pub put-result-spec : {M : Type 1} → statement M
 put-result-spec =
     tie.close
-    (tie.spec
-    put-result-word-requires
-    put-result-word-requires-2
-    put-result-word-requires-3
-    put-result-word-requires-4
-    same-length
-    returns)
+    (tie.spec (λ c κs. search needs) (λ c κs. search needs) (λ c κs. search needs) (λ c κs. search needs)
+    (λ c. search needs) returns)

@@ -11,24 +11,6 @@ use Rattle.terms.specs.Results.{resultSize, resultStart}
 use Rattle.terms.proofs.put_result_word.Statement.{statement}
 use Rattle.terms.proofs.put_result_word.Tie as tie
 
-earlier-requires : tie.Need-earlier-requires
-earlier-requires c κs = search needs
-
-mul-at : tie.Need-mul-at
-mul-at c = search needs
-
-add-at : tie.Need-add-at
-add-at c = search needs
-
-mul-results : tie.Need-mul-results
-mul-results c = search needs
-
-slice-write-results : tie.Need-slice-write-results
-slice-write-results c = search needs
-
-same-length : tie.Need-same-length
-same-length c = search needs
-
 returns : tie.Need-returns
 returns c =
     let args = c .before .before .before .args in
@@ -43,12 +25,5 @@ returns-2 c =
 pub put-result-word-spec : {M : Type 1} → statement M
 put-result-word-spec =
     tie.close
-    (tie.spec
-    earlier-requires
-    mul-at
-    add-at
-    mul-results
-    slice-write-results
-    same-length
-    returns
-    returns-2)
+    (tie.spec (λ c κs. search needs) (λ c. search needs) (λ c. search needs) (λ c. search needs)
+    (λ c. search needs) (λ c. search needs) returns returns-2)

@@ -47,16 +47,5 @@ returns-11 c = (0, inr (omega arith, inr (omega arith, inr (omega arith, inr (om
 pub setting-out-of-range-spec : {M : Type 1} → statement M
 setting-out-of-range-spec =
     tie.close
-    (tie.spec
-    returns
-    returns-2
-    returns-3
-    returns-4
-    returns-5
-    returns-6
-    mul-if7
-    returns-7
-    returns-8
-    returns-9
-    returns-10
-    returns-11)
+    (tie.spec returns returns-2 returns-3 returns-4 returns-5 returns-6 mul-if7 returns-7 returns-8 returns-9
+    returns-10 returns-11)

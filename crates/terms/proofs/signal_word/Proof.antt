@@ -10,26 +10,11 @@ use Rattle.terms.specs.Lists.{signalSize, entryStart}
 use Rattle.terms.proofs.signal_word.Statement.{statement}
 use Rattle.terms.proofs.signal_word.Tie as tie
 
-earlier-requires : tie.Need-earlier-requires
-earlier-requires c κs = search needs
-
-mul-at : tie.Need-mul-at
-mul-at c = search needs
-
-add-at : tie.Need-add-at
-add-at c = search needs
-
 returns : tie.Need-returns
 returns c =
     let args = c .before .before .before .args in
     sym
     (List·getD-eq-default (now (args .list)) 0 {n = entryStart signalSize (args .i) + args .d} (omega (arith, c .before .earlier .ensures)))
-
-mul-result : tie.Need-mul-result
-mul-result c = search needs
-
-shared-slice-read-result : tie.Need-shared-slice-read-result
-shared-slice-read-result c = search needs
 
 returns-2 : tie.Need-returns-2
 returns-2 c =
@@ -39,4 +24,5 @@ returns-2 c =
 pub signal-word-spec : {M : Type 1} → statement M
 signal-word-spec =
     tie.close
-    (tie.spec earlier-requires mul-at add-at returns mul-result shared-slice-read-result returns-2)
+    (tie.spec (λ c κs. search needs) (λ c. search needs) (λ c. search needs) returns (λ c. search needs)
+    (λ c. search needs) returns-2)

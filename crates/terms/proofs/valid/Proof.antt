@@ -7,17 +7,11 @@ use Rattle.terms.proofs.RangesLaws.{settings-granted, settings-refused}
 use Rattle.terms.proofs.valid.Statement.{statement}
 use Rattle.terms.proofs.valid.Tie as tie
 
-setting-out-of-range-requires : tie.Need-setting-out-of-range-requires
-setting-out-of-range-requires c κs = search needs
-
 returns : tie.Need-returns
 returns c =
     λ v.
     settings-refused (c .before .before .args .s) (c .before .setting-out-of-range .result)
     (c .before .setting-out-of-range .ensures) (λ z. omega arith) (v .settings)
-
-signal-in-range-requires : tie.Need-signal-in-range-requires
-signal-in-range-requires c κs = search needs
 
 returns-2 : tie.Need-returns-2
 returns-2 c =
@@ -36,4 +30,4 @@ returns-3 c =
 pub valid-spec : {M : Type 1} → statement M
 valid-spec =
     tie.close
-    (tie.spec setting-out-of-range-requires returns signal-in-range-requires returns-2 returns-3)
+    (tie.spec (λ c κs. search needs) returns (λ c κs. search needs) returns-2 returns-3)

@@ -9,9 +9,6 @@ use Rattle.cycles.proofs.OperationLaws.{all-free, mask-free}
 use Rattle.cycles.proofs.Slot.all_free.Statement.{statement}
 use Rattle.cycles.proofs.Slot.all_free.Tie as tie
 
-cycles-of-requires : tie.Need-cycles-of-requires
-cycles-of-requires c κs = search needs
-
 returns : tie.Need-returns
 returns c =
     let a = c .before .before .args in
@@ -22,4 +19,4 @@ returns c =
     (λ e h. eqb-false both m e (mask-free (a .self) (a .repetition) (a .base) m mask (search needs) h))
 
 pub all-free-spec : {M : Type 1} → statement M
-all-free-spec = tie.close (tie.spec cycles-of-requires returns)
+all-free-spec = tie.close (tie.spec (λ c κs. search needs) returns)

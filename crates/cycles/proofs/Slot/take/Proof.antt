@@ -6,9 +6,6 @@ use Rattle.cycles.proofs.OperationLaws.{left-free}
 use Rattle.cycles.proofs.Slot.take.Statement.{statement}
 use Rattle.cycles.proofs.Slot.take.Tie as tie
 
-cycles-of-requires : tie.Need-cycles-of-requires
-cycles-of-requires c κs = search needs
-
 returns : tie.Need-returns
 returns c =
     let a = c .before .before .args in
@@ -19,4 +16,4 @@ returns c =
     }
 
 pub take-spec : {M : Type 1} → statement M
-take-spec = tie.close (tie.spec cycles-of-requires returns)
+take-spec = tie.close (tie.spec (λ c κs. search needs) returns)

@@ -10,9 +10,6 @@ use Rattle.terms.proofs.RepetitionLaws.{repetition-positive}
 use Rattle.cycles.proofs.Tally.add.Statement.{statement}
 use Rattle.cycles.proofs.Tally.add.Tie as tie
 
-is-repetition-requires : tie.Need-is-repetition-requires
-is-repetition-requires c κs = search needs
-
 returns : tie.Need-returns
 returns c = other (refused (c .before .is-repetition .result) (c .before .is-repetition .ensures) (c .if1 .taken))
 
@@ -39,4 +36,4 @@ returns-3 c =
 
 pub add-spec : {M : Type 1} → statement M
 add-spec =
-    tie.close (tie.spec is-repetition-requires returns div-more sub-if2 returns-2 add-t6 returns-3)
+    tie.close (tie.spec (λ c κs. search needs) returns div-more sub-if2 returns-2 add-t6 returns-3)

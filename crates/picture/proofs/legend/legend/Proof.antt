@@ -49,18 +49,5 @@ returns c = search needs
 pub legend-spec : {M : Type 1} → statement M
 legend-spec =
     tie.close
-    (tie.spec
-    Inv-loop
-    μ-loop
-    slice-aggregate-text
-    text-requires
-    lead-requires
-    loop-holds
-    share-of-requires
-    entry-where-used-requires
-    add-unit
-    loop-less
-    loop-again
-    slice-aggregate-text-2
-    text-requires-2
-    returns)
+    (tie.spec Inv-loop μ-loop slice-aggregate-text text-requires lead-requires loop-holds share-of-requires
+    entry-where-used-requires add-unit loop-less loop-again slice-aggregate-text-2 text-requires-2 returns)

@@ -34,13 +34,4 @@ returns c = search needs
 pub draw-cells-spec : {M : Type 1} → statement M
 draw-cells-spec =
     tie.close
-    (tie.spec
-    Inv-loop
-    μ-loop
-    loop-holds
-    cell-requires
-    draw-cell-requires
-    add-cycle
-    loop-less
-    loop-again
-    returns)
+    (tie.spec Inv-loop μ-loop loop-holds cell-requires draw-cell-requires add-cycle loop-less loop-again returns)

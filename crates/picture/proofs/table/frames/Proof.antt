@@ -43,16 +43,5 @@ returns c = search needs
 pub frames-spec : {M : Type 1} → statement M
 frames-spec =
     tie.close
-    (tie.spec
-    Inv-loop
-    μ-loop
-    slice-aggregate-text
-    text-requires
-    loop-holds
-    add-signal
-    frame-requires
-    loop-less
-    loop-again
-    slice-aggregate-text-2
-    text-requires-2
-    returns)
+    (tie.spec Inv-loop μ-loop slice-aggregate-text text-requires loop-holds add-signal frame-requires loop-less
+    loop-again slice-aggregate-text-2 text-requires-2 returns)

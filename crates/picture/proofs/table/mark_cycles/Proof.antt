@@ -31,12 +31,4 @@ returns c = search needs
 pub mark-cycles-spec : {M : Type 1} → statement M
 mark-cycles-spec =
     tie.close
-    (tie.spec
-    Inv-loop
-    μ-loop
-    loop-holds
-    mark-cycle-requires
-    add-cycle
-    loop-less
-    loop-again
-    returns)
+    (tie.spec Inv-loop μ-loop loop-holds mark-cycle-requires add-cycle loop-less loop-again returns)

@@ -44,16 +44,5 @@ returns c = search needs
 pub rank-spec : {M : Type 1} → statement M
 rank-spec =
     tie.close
-    (tie.spec
-    Inv-loop
-    μ-loop
-    loop-holds
-    cast-ranks
-    mul-ranks
-    element-write-ranks
-    has-one-requires
-    add-count
-    add-unit
-    loop-less
-    loop-again
-    returns)
+    (tie.spec Inv-loop μ-loop loop-holds cast-ranks mul-ranks element-write-ranks has-one-requires add-count
+    add-unit loop-less loop-again returns)

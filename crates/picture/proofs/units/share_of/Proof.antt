@@ -51,18 +51,5 @@ returns c = search needs
 pub share-of-spec : {M : Type 1} → statement M
 share-of-spec =
     tie.close
-    (tie.spec
-    Inv-loop
-    μ-loop
-    loop-holds
-    add-signal
-    signal-at-requires
-    result-word-requires
-    lower-requires
-    higher-requires
-    add-count
-    loop-less
-    loop-again
-    loop-less-2
-    loop-again-2
-    returns)
+    (tie.spec Inv-loop μ-loop loop-holds add-signal signal-at-requires result-word-requires lower-requires
+    higher-requires add-count loop-less loop-again loop-less-2 loop-again-2 returns)

@@ -108,20 +108,6 @@ returns-2 c =
 pub bound-not-kept-spec : {M : Type 1} → statement M
 bound-not-kept-spec =
     tie.close
-    (tie.spec
-    Inv-loop
-    μ-loop
-    loop-holds
-    signal-at-requires
-    repetition-requires
-    same-length
-    returns
-    cast-repetitions
-    sub-repetitions
-    mul-repetitions
-    slice-write-repetitions
-    add-i
-    loop-less
-    loop-again
-    same-length-2
-    returns-2)
+    (tie.spec Inv-loop μ-loop loop-holds signal-at-requires repetition-requires same-length returns
+    cast-repetitions sub-repetitions mul-repetitions slice-write-repetitions add-i loop-less loop-again
+    same-length-2 returns-2)

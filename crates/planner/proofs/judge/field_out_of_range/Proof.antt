@@ -64,14 +64,5 @@ returns-2 c =
 pub field-out-of-range-spec : {M : Type 1} → statement M
 field-out-of-range-spec =
     tie.close
-    (tie.spec
-    Inv-loop
-    μ-loop
-    loop-holds
-    signal-at-requires
-    signal-in-range-requires
-    returns
-    add-i
-    loop-less
-    loop-again
-    returns-2)
+    (tie.spec Inv-loop μ-loop loop-holds signal-at-requires signal-in-range-requires returns add-i loop-less
+    loop-again returns-2)

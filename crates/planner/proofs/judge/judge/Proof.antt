@@ -31,20 +31,11 @@ lent e =
 signals : (e : tie.Else2) → EachSignal (asked (e .before .before .before .before .before) .list) (SignalInRange (asked (e .before .before .before .before .before) .settings))
 signals e = none-each _ _ (e .before .field-out-of-range .result) (e .before .field-out-of-range .ensures) (e .if2 .left)
 
-judge-lent-requires : tie.Need-judge-lent-requires
-judge-lent-requires c κs = search needs
-
-number-requires : tie.Need-number-requires
-number-requires c κs = search needs
-
 returns : tie.Need-returns
 returns c =
     let j = c .before .before in
     judged-lent (asked j) (Begin j .args .cells) (Begin j .args .results) (Begin j .args .repetitions .now) (j .judge-lent .result)
     (j .judge-lent .ensures) (λ z. c .if1 .taken (c .before .number .ensures ∙ z))
-
-count-requires : tie.Need-count-requires
-count-requires c κs = search needs
 
 cast-m : tie.Need-cast-m
 cast-m c = omega (arith, lent (c .before) .1 .0 .few, c .count .ensures)
@@ -69,9 +60,6 @@ bound-not-kept-requires c κs =
       room = Begin (n .before .before .before) .pre;
     }
 
-same-length : tie.Need-same-length
-same-length c = search needs
-
 returns-3 : tie.Need-returns-3
 returns-3 c =
     let b = c .before .before .before in
@@ -79,9 +67,6 @@ returns-3 c =
     let j = e .before .before .before .before .before in
     judged-8 (asked j) (Begin j .args .cells) (Begin j .args .results) (b .bound-not-kept .last .1 .1 .1 .0) (lent (e .before .before .before))
     (signals e) (b .bound-not-kept .result) (b .bound-not-kept .ensures) (c .if3 .taken)
-
-same-length-2 : tie.Need-same-length-2
-same-length-2 c = search needs
 
 returns-4 : tie.Need-returns-4
 returns-4 c =
@@ -94,16 +79,6 @@ returns-4 c =
 pub judge-spec : {M : Type 1} → statement M
 judge-spec =
     tie.close
-    (tie.spec
-    judge-lent-requires
-    number-requires
-    returns
-    count-requires
-    cast-m
-    field-out-of-range-requires
-    returns-2
-    bound-not-kept-requires
-    same-length
-    returns-3
-    same-length-2
-    returns-4)
+    (tie.spec (λ c κs. search needs) (λ c κs. search needs) returns (λ c κs. search needs) cast-m
+    field-out-of-range-requires returns-2 bound-not-kept-requires (λ c. search needs) returns-3
+    (λ c. search needs) returns-4)

@@ -24,27 +24,15 @@ settings e =
 counted : (e : tie.Else2) → CountInRange (Begin (e .before .before) .args .list .now)
 counted e = granted (e .before .count-in-range .result) (e .before .count-in-range .ensures) (e .if2 .left)
 
-setting-out-of-range-requires : tie.Need-setting-out-of-range-requires
-setting-out-of-range-requires c κs = search needs
-
 returns : tie.Need-returns
 returns c =
     let w = c .before .setting-out-of-range in
     inl (settings-refused (c .before .before .before .args .s) (w .result) (w .ensures) (c .if1 .taken), refl, w .ensures)
 
-count-in-range-requires : tie.Need-count-in-range-requires
-count-in-range-requires c κs = search needs
-
 returns-2 : tie.Need-returns-2
 returns-2 c =
     let n = c .before .count-in-range in
     inr (settings (c .before .before), inl (refused (n .result) (n .ensures) (c .if2 .taken), refl, refl))
-
-cast-table : tie.Need-cast-table
-cast-table c = search needs
-
-mul-table : tie.Need-mul-table
-mul-table c = search needs
 
 cast-t11 : tie.Need-cast-t11
 cast-t11 c = let few = settings (c .before .before .before .before) in omega arith
@@ -53,12 +41,6 @@ returns-3 : tie.Need-returns-3
 returns-3 c =
     let e = c .before .before in
     inr (settings (e .before .before), inr (counted e, inl ((λ h. omega arith), refl, refl)))
-
-count-requires : tie.Need-count-requires
-count-requires c κs = search needs
-
-mul-shown : tie.Need-mul-shown
-mul-shown c = search needs
 
 cast-t12 : tie.Need-cast-t12
 cast-t12 c =
@@ -86,17 +68,6 @@ returns-5 c =
 pub judge-lent-spec : {M : Type 1} → statement M
 judge-lent-spec =
     tie.close
-    (tie.spec
-    setting-out-of-range-requires
-    returns
-    count-in-range-requires
-    returns-2
-    cast-table
-    mul-table
-    cast-t11
-    returns-3
-    count-requires
-    mul-shown
-    cast-t12
-    returns-4
+    (tie.spec (λ c κs. search needs) returns (λ c κs. search needs) returns-2 (λ c. search needs)
+    (λ c. search needs) cast-t11 returns-3 (λ c κs. search needs) (λ c. search needs) cast-t12 returns-4
     returns-5)

@@ -4,9 +4,9 @@ use Rattle.terms.specs.declared.Settings.{Settings}
 use Rattle.terms.specs.declared.Signal.{Signal}
 use Rattle.terms.specs.declared.Frame.{Frame}
 
-abbrev pub settingsGiven : (cycle length slots packing payload : ℕ) → Settings
-settingsGiven cycle length slots packing payload =
-    record { cycle = cycle; slot = length; slots = slots; packing = packing; payload = payload }
+abbrev pub settingsGiven : (cycle ticks slots packing payload : ℕ) → Settings
+settingsGiven cycle ticks slots packing payload =
+    record { cycle = cycle; slot = ticks; slots = slots; packing = packing; payload = payload }
 
 abbrev pub signalGiven : (unit period offset size bound : ℕ) → Signal
 signalGiven unit period offset size bound =

@@ -19,7 +19,7 @@ use terms::Signal;
 #[no_mangle]
 pub extern "C" fn noctelvia_age(
     cycle: u32,
-    length: u32,
+    ticks: u32,
     slots: u32,
     packing: u32,
     payload: u32,
@@ -32,12 +32,12 @@ pub extern "C" fn noctelvia_age(
     repetition: u32,
     base: u32,
 ) -> u32
-    ensures { λ r. ⌜ AgeGiven (settingsGiven cycle length slots packing payload)
+    ensures { λ r. ⌜ AgeGiven (settingsGiven cycle ticks slots packing payload)
         (signalGiven unit period offset size bound) (frameGiven slot repetition base) r ⌝ }
 {
     let s = Settings {
         cycle,
-        slot: length,
+        slot: ticks,
         slots,
         packing,
         payload,
@@ -61,7 +61,7 @@ pub extern "C" fn noctelvia_age(
 #[no_mangle]
 pub extern "C" fn noctelvia_repetition(
     cycle: u32,
-    length: u32,
+    ticks: u32,
     slots: u32,
     packing: u32,
     payload: u32,
@@ -71,11 +71,11 @@ pub extern "C" fn noctelvia_repetition(
     size: u32,
     bound: u32,
 ) -> u32
-    ensures { λ r. ⌜ RepetitionGiven (settingsGiven cycle length slots packing payload) (signalGiven unit period offset size bound) r ⌝ }
+    ensures { λ r. ⌜ RepetitionGiven (settingsGiven cycle ticks slots packing payload) (signalGiven unit period offset size bound) r ⌝ }
 {
     let s = Settings {
         cycle,
-        slot: length,
+        slot: ticks,
         slots,
         packing,
         payload,
@@ -112,19 +112,19 @@ pub extern "C" fn noctelvia_setting(book: &[u8], word: u32) -> u32
 #[no_mangle]
 pub extern "C" fn noctelvia_write(
     cycle: u32,
-    length: u32,
+    ticks: u32,
     slots: u32,
     packing: u32,
     payload: u32,
     list: &[u32],
     room: &mut [u8],
 ) -> u64
-    ensures { λ r. ⌜ WriteAnswered (settingsGiven cycle length slots packing payload) (now (list .entry))
+    ensures { λ r. ⌜ WriteAnswered (settingsGiven cycle ticks slots packing payload) (now (list .entry))
         (now (room .entry)) r (now (room .exit)) ⌝ }
 {
     let s = Settings {
         cycle,
-        slot: length,
+        slot: ticks,
         slots,
         packing,
         payload,
@@ -144,7 +144,7 @@ pub extern "C" fn noctelvia_part(book: &[u8], signal: u32) -> u64
 #[no_mangle]
 pub extern "C" fn noctelvia_plan_list(
     cycle: u32,
-    length: u32,
+    ticks: u32,
     slots: u32,
     packing: u32,
     payload: u32,
@@ -152,13 +152,13 @@ pub extern "C" fn noctelvia_plan_list(
     cells: &mut [u32],
     results: &mut [u32],
 ) -> u64
-    ensures { λ r. ⌜ PlanAnswered (request (settingsGiven cycle length slots packing payload) (now (list .entry)))
+    ensures { λ r. ⌜ PlanAnswered (request (settingsGiven cycle ticks slots packing payload) (now (list .entry)))
         (planRoom (now (cells .entry)) (now (results .entry))) r
         (planRoom (now (cells .exit)) (now (results .exit))) ⌝ }
 {
     let s = Settings {
         cycle,
-        slot: length,
+        slot: ticks,
         slots,
         packing,
         payload,
@@ -182,23 +182,24 @@ pub extern "C" fn noctelvia_plan(book: &[u8], results: &mut [u8]) -> u64
     terms::packed(plan_bytes(s, &list[..words], results))
 }
 
-// The plan of a list whose results are bytes: planning's own, into words of its own; only the bytes can be too few.
+// The plan of a list whose results are bytes. Only the bytes can be too few, and they are looked at before the search: 6, then
+// 10; the rest is planning's own answer, into words of its own.
 fn plan_bytes(s: Settings, list: &[u32], results: &mut [u8]) -> Answer
     requires { ⌜ CountInRange (now list) ⌝ }
     ensures { λ r. ⌜ BytesPlanned (request s (now (list .entry))) (now (results .entry)) r (now (results .exit)) ⌝ }
 {
-    let mut cells = [0u32; 8192];
-    let mut shown = [0u32; terms::RESULT_WORDS * terms::MOST_SIGNALS];
-    let planned = planner::plan(s, list, &mut cells, &mut shown);
-    let number = terms::number(planned);
-    if number == 6 {
-        return planned;
+    let word = terms::setting_out_of_range(s);
+    if word != 0 {
+        return Answer::Setting(word);
     }
     let words = terms::RESULT_WORDS * terms::count(list);
     if results.len() < 4 * words {
         return Answer::Room((4 * words) as u32);
     }
-    if number != 0 {
+    let mut cells = [0u32; 8192];
+    let mut shown = [0u32; terms::RESULT_WORDS * terms::MOST_SIGNALS];
+    let planned = planner::plan(s, list, &mut cells, &mut shown);
+    if terms::number(planned) != 0 {
         return planned;
     }
     book::put_words(&shown[..words], results);

@@ -1,4 +1,4 @@
--- `editor::plan_bytes` meets its contract: planning's own answer, but for bytes that are too few, and its words as bytes.
+-- `editor::plan_bytes` meets its contract: 6 and 10 by their tests, then planning's own answer, its words as bytes.
 -- Assumes nothing.
 use mathlib.Core.Path.{_∙_, sym, ap, subst}
 use mathlib.Core.List.{List}
@@ -11,65 +11,70 @@ use Rattle.terms.specs.Requests.{Request, request}
 use Rattle.terms.specs.Results.{resultSize}
 use Rattle.book.specs.Words.{bytesAfter}
 use Rattle.editor.specs.Private.{BytesPlanned}
-use Rattle.editor.proofs.BytesLaws.{refused-six, refused-short, refused-rest, bytes-done}
+use Rattle.editor.proofs.BytesLaws.{refused-6, refused-10, refused-later, bytes-done}
 use Rattle.editor.proofs.plan_bytes.Statement.{statement}
 use Rattle.editor.proofs.plan_bytes.Tie as tie
 
-abbrev Begin : tie.After-plan → tie.Start
-Begin p = p .before .before .before .before .before
-
 -- what is asked, and the bytes lent
-abbrev asked : tie.After-plan → Request
-asked p = request (Begin p .args .s) (Begin p .args .list .now)
+abbrev Begin : tie.After-setting-out-of-range → tie.Start
+Begin w = w .before .before .before
 
-abbrev lent : tie.After-plan → List ℕ
-lent p = Begin p .args .results .now
+abbrev asked : tie.After-setting-out-of-range → Request
+asked w = request (Begin w .args .s) (Begin w .args .list .now)
+
+abbrev lent : tie.After-setting-out-of-range → List ℕ
+lent w = Begin w .args .results .now
 
 returns : tie.Need-returns
 returns c =
-    let n = c .before in
-    let p = n .before .before .before in
-    refused-six (asked p) (lent p) _ (Begin p .pre) (record { cells = omega arith; results = omega arith }) (p .plan .ensures)
-    (sym (n .number .ensures) ∙ c .if1 .taken)
+    let w = c .before in
+    refused-6 (asked w) (lent w) _ (w .setting-out-of-range .ensures) (λ z. omega arith)
 
 returns-2 : tie.Need-returns-2
 returns-2 c =
-    let n = c .before .before .before in
-    let p = n .before .before .before in
-    subst (λ (m : ℕ). BytesPlanned (asked p) (lent p) (Room (4 * (resultSize * m))) (lent p)) (sym (c .before .count .ensures))
-    (refused-short (asked p) (lent p) _ (Begin p .pre) (record { cells = omega arith; results = omega arith }) (p .plan .ensures)
-    (λ e. c .before .before .if1 .left (n .number .ensures ∙ e)) (omega (arith, c .before .count .ensures)))
+    let m = c .before in
+    let w = m .before .before in
+    subst (λ (k : ℕ). BytesPlanned (asked w) (lent w) (Room (4 * (resultSize * k))) (lent w)) (sym (m .count .ensures))
+    (refused-10 (asked w) (lent w) _ (w .setting-out-of-range .ensures) (omega arith) (omega (arith, m .count .ensures)))
+
+-- the room that planning is lent is enough, and so are the bytes
+abbrev Fit : tie.After-plan → tie.Else2
+Fit p = p .before .before .before
+
+abbrev Set : tie.Else2 → tie.After-setting-out-of-range
+Set e = e .before .before .before
 
 returns-3 : tie.Need-returns-3
 returns-3 c =
-    let m = c .before .before in
-    let n = m .before .before in
+    let n = c .before in
     let p = n .before .before .before in
-    refused-rest (asked p) (lent p) _ (Begin p .pre) (record { cells = omega arith; results = omega arith }) (p .plan .ensures)
-    (λ e. m .before .if1 .left (n .number .ensures ∙ e)) (omega (arith, m .count .ensures)) (λ z. c .if3 .taken (n .number .ensures ∙ z))
+    let m = Fit p .before in
+    let w = Set (Fit p) in
+    refused-later (asked w) (lent w) _ (w .setting-out-of-range .ensures) (omega arith) (omega (arith, m .count .ensures)) (Begin w .pre) _
+    (record { cells = omega arith; results = omega arith }) (p .plan .ensures) (λ z. c .if3 .taken (n .number .ensures ∙ z))
 
 slice-aggregate-put-words : tie.Need-slice-aggregate-put-words
 slice-aggregate-put-words c = simp length-take (omega arith)
 
 returns-4 : tie.Need-returns-4
 returns-4 c =
-    let w = c .before .before in
-    let e = w .before .before .before in
-    let m = e .before .before in
-    let n = m .before .before in
-    let p = n .before .before .before in
+    let put = c .before .before in
+    let e = put .before .before .before in
+    let p = e .before .before .before .before in
+    let m = Fit p .before in
+    let w = Set (Fit p) in
     let done =
-    bytes-done (asked p) (lent p) _ (Begin p .pre) (record { cells = omega arith; results = omega arith }) (p .plan .ensures)
-    (λ d. m .before .if1 .left (n .number .ensures ∙ d)) (omega (arith, m .count .ensures)) (sym (n .number .ensures) ∙ e .if3 .left) in
-    subst (BytesPlanned (asked p) (lent p) (p .plan .result))
+    bytes-done (asked w) (lent w) _ (w .setting-out-of-range .ensures) (omega arith) (omega (arith, m .count .ensures)) (Begin w .pre) _
+    (record { cells = omega arith; results = omega arith }) (p .plan .ensures) (sym (e .before .number .ensures) ∙ e .if3 .left) in
+    subst (BytesPlanned (asked w) (lent w) (p .plan .result))
     (sym
-    (w .put-words .ensures
-    ∙ ap (λ (k : ℕ). bytesAfter (take (resultSize * k) (p .plan .last .1 .1 .1 .0)) (lent p)) (m .count .ensures))) done
+    (put .put-words .ensures
+    ∙ ap (λ (k : ℕ). bytesAfter (take (resultSize * k) (p .plan .last .1 .1 .1 .0)) (lent w)) (m .count .ensures))) done
 
 pub plan-bytes-spec : {M : Type 1} → statement M
 plan-bytes-spec =
     tie.close
-    (tie.spec (λ c. search needs) (λ c. search needs) (λ c κs. search needs) (λ c κs. search needs) returns
-    (λ c κs. search needs) (λ c. search needs) (λ c. search needs) (λ c. search needs) (λ c. search needs)
-    returns-2 returns-3 (λ c. search needs) slice-aggregate-put-words (λ c κs. search needs) (λ c. search needs)
-    returns-4)
+    (tie.spec (λ c κs. search needs) returns (λ c κs. search needs) (λ c. search needs) (λ c. search needs)
+    (λ c. search needs) (λ c. search needs) returns-2 (λ c. search needs) (λ c. search needs) (λ c κs. search needs)
+    (λ c κs. search needs) returns-3 (λ c. search needs) slice-aggregate-put-words (λ c κs. search needs)
+    (λ c. search needs) returns-4)

@@ -7,7 +7,7 @@ use lib.Dec.{eqb}
 use lib.ListN.{getD, take, drop}
 use Rattle.laws.specs.Rows.{Row}
 use Rattle.terms.specs.declared.Settings.{Settings}
-use Rattle.terms.specs.Ranges.{Setting, settingTable}
+use Rattle.terms.specs.Ranges.{SettingEntry, settingTable}
 use Rattle.terms.specs.Lists.{signalSize, count, countRow}
 use Rattle.terms.specs.Answers.{roomRow}
 use Rattle.book.specs.Words.{bytesOf, checkOf}
@@ -32,7 +32,7 @@ signalsIn m k = min perBlock (m - perBlock * (k - 1))
 abbrev pub blocksFor : ℕ → ℕ
 blocksFor m = 1 + (m + (perBlock - 1)) / perBlock
 
-abbrev pub values : List Setting → List ℕ
+abbrev pub values : List SettingEntry → List ℕ
 values [] = []
 values (t ∷ ts) = t .value ∷ values ts
 

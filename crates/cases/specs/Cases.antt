@@ -34,7 +34,7 @@ pub data Case : Type 0 where
   gets : Settings → Signal → ℕ → Case
   -- the signal's age in a frame
   shows : Settings → Signal → Frame → ℕ → Case
-  -- the repetitions of a list's signals, where each is placed, in the order of filling, and the slots used
+  -- the repetitions of a list's signals, where each is placed, by rising repetition, and the slots used
   fills : Settings → List ℕ → (repetitions : List ℕ) → List Placed → ℕ → Case
 
 pub record FilledAs (s : Settings) (list repetitions : List ℕ) (at : List Placed) (slots : ℕ) : Type 0 where

@@ -1,4 +1,5 @@
--- "Filling the table": the frames in the order of filling, each placed in the slots of its group, and the slots needed.
+-- "Filling the table": the slots needed, and where each frame is placed. Frames go by rising repetition, each into the slots of its
+-- group, which begin behind those that the groups before need; that this is unit by unit what 01 says is `FillingShown`.
 use mathlib.Core.Bool.{cond}
 use mathlib.Core.List.{List, [], _∷_}
 use Prim.Native.Nat.{ℕ, zero, suc, _+_, _*_, _/_}

@@ -12,7 +12,7 @@ use Rattle.laws.proofs.DecidedLaws.{Decided, decided-hold}
 use Rattle.terms.specs.declared.Settings.{Settings}
 use Rattle.terms.specs.declared.Signal.{Signal}
 use Rattle.terms.specs.declared.Frame.{Frame}
-use Rattle.terms.specs.Ranges.{Setting, settingTable, tableRows, settingRows}
+use Rattle.terms.specs.Ranges.{SettingEntry, settingTable, tableRows, settingRows}
 use Rattle.terms.specs.Ranges.{SettingsInRange, SignalInRange, Valid, Repetition, FrameInRange}
 use Rattle.terms.specs.Lists.{signalSize, count, CountInRange}
 use Rattle.terms.proofs.Seven.{divisor, repetition-divides}
@@ -24,11 +24,11 @@ between-or-not low high x = Dec·and (decLe low x) (decLe x high)
 -- ---- settings and signals
 
 -- each range of a table is decided
-abbrev EachDecided : List Setting → Type 0
+abbrev EachDecided : List SettingEntry → Type 0
 EachDecided [] = Unit {0}
 EachDecided (t ∷ ts) = Dec (t .range) × EachDecided ts
 
-table-decided : (ts : List Setting) → EachDecided ts → Decided (tableRows ts)
+table-decided : (ts : List SettingEntry) → EachDecided ts → Decided (tableRows ts)
 table-decided [] d = tt
 table-decided (t ∷ ts) d =
     dite (d .0) (λ h. inl (h, table-decided ts (d .1))) (λ n. inr (n, (t .word, refl)))

@@ -9,22 +9,22 @@ use lib.Dec.{lit≤}
 use Rattle.laws.specs.Rows.{FirstRow, Hold}
 use Rattle.laws.proofs.RowLaws.{Single, holds-zero, one-outcome}
 use Rattle.terms.specs.declared.Settings.{Settings}
-use Rattle.terms.specs.Ranges.{Setting, settingTable, tableRows, settingRows, SettingsInRange, LowestOutOfRange}
+use Rattle.terms.specs.Ranges.{SettingEntry, settingTable, tableRows, settingRows, SettingsInRange, LowestOutOfRange}
 
 -- no setting stands in word 0
-abbrev Named : List Setting → Type 0
+abbrev Named : List SettingEntry → Type 0
 Named [] = Unit {0}
 Named (t ∷ ts) = (1 ≤ t .word) × Named ts
 
 named : (s : Settings) → Named (settingTable s)
 named s = (lit≤ tt, (lit≤ tt, (lit≤ tt, (lit≤ tt, (lit≤ tt, tt)))))
 
-pub table-single : (ts : List Setting) → Single (tableRows ts)
+pub table-single : (ts : List SettingEntry) → Single (tableRows ts)
 table-single [] = tt
 table-single (t ∷ ts) = ((λ p q d e. omega arith), table-single ts)
 
 module _ (n w : ℕ) where
-  zero-granted : (ts : List Setting) → Named ts → FirstRow (tableRows ts) (λ p. p ≡ 0) n w → w ≡ 0 → Hold (tableRows ts)
+  zero-granted : (ts : List SettingEntry) → Named ts → FirstRow (tableRows ts) (λ p. p ≡ 0) n w → w ≡ 0 → Hold (tableRows ts)
   zero-granted [] h f e = tt
   zero-granted (t ∷ ts) h (inl f) e = absurd (omega (arith, h .0, f .2))
   zero-granted (t ∷ ts) h (inr f) e = (f .0, zero-granted ts (h .1) (f .1) e)

@@ -11,15 +11,12 @@ use Rattle.terms.specs.declared.Signal.{Signal}
 abbrev pub signalSize : ℕ
 signalSize = 5
 
--- the entries of a list whose entries have so many words, and where entry i starts, numbered from 1
-abbrev pub entries : (size : ℕ) → List ℕ → ℕ
-entries size list = length list / size
-
+-- where entry i of so many words starts, numbered from 1; there is no entry 0, and what asks for it gets the first
 abbrev pub entryStart : (size i : ℕ) → ℕ
 entryStart size i = size * (i - 1)
 
 abbrev pub count : List ℕ → ℕ
-count list = entries signalSize list
+count list = length list / signalSize
 
 -- "A list holds 0 to 600 signals"
 pub record CountInRange (list : List ℕ) : Type 0 where

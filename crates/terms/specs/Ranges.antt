@@ -11,12 +11,12 @@ use Rattle.terms.specs.declared.Signal.{Signal}
 use Rattle.terms.specs.declared.Frame.{Frame}
 
 -- 01's table: a word of the settings block, the setting that it holds, and what is asked of it
-pub record Setting : Type 1 where
+pub record SettingEntry : Type 1 where
   pub word : ℕ
   pub value : ℕ
   pub range : Type 0
 
-abbrev pub settingTable : Settings → List Setting
+abbrev pub settingTable : Settings → List SettingEntry
 settingTable s =
     record { word = 2; value = s .cycle; range = Between 10 16000 (s .cycle) }
     ∷ record { word = 3; value = s .slot; range = Between 1 16000 (s .slot) }
@@ -26,7 +26,7 @@ settingTable s =
     ∷ []
 
 -- each with "its word, lowest first; slots too long for the cycle is word 4"
-abbrev pub tableRows : List Setting → List Row
+abbrev pub tableRows : List SettingEntry → List Row
 tableRows [] = []
 tableRows (t ∷ ts) = record { number = 6; holds = t .range; place = λ p. p ≡ t .word } ∷ tableRows ts
 
@@ -45,7 +45,7 @@ abbrev pub settingRow : Settings → Row
 settingRow s = record { number = 6; holds = SettingsInRange s; place = LowestOutOfRange s }
 
 -- the setting that word w holds, or 0 where it holds none; and the settings of given words
-abbrev pub wordIn : List Setting → ℕ → ℕ
+abbrev pub wordIn : List SettingEntry → ℕ → ℕ
 wordIn [] w = 0
 wordIn (t ∷ ts) w = cond (eqb w (t .word)) (t .value) (wordIn ts w)
 

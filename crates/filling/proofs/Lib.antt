@@ -13,6 +13,7 @@ pub mod TurnLaws
 pub mod Turning
 pub mod Tallying
 pub mod GatherLaws
+pub mod OrderedLaws
 pub mod Gathering
 pub mod StepLaws
 pub mod ShowLaws

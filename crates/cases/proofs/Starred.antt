@@ -6,7 +6,7 @@ use Rattle.laws.proofs.DivisorLaws.{euclid}
 use Rattle.laws.specs.Sums.{sum, same}
 use Rattle.filling.specs.Cycles.{firstFree, seek}
 use Rattle.filling.specs.Ordered.{ordered, insert}
-use Rattle.filling.specs.Runs.{room}
+use Rattle.filling.specs.Runs.{goesTo}
 use Rattle.filling.specs.Filled.{framesFrom, fillFrom}
 use Rattle.cases.specs.Cases.{Case, CaseHolds, EachCase, starred, Claim}
 use Rattle.cases.specs.Cases.Case.{gets, shows, fills}
@@ -25,5 +25,5 @@ tests [] = passing tt
 tests (c ∷ cs) = join (test c) (tests cs)
 
 pub starred-hold : Claim
-unfolding Claim euclid keeps-at keeps-flag spanDivisor framesFrom fillFrom ordered insert sum same room firstFree seek
+unfolding Claim euclid keeps-at keeps-flag spanDivisor framesFrom fillFrom ordered insert sum same goesTo firstFree seek
 starred-hold = tests starred .1 tt

@@ -20,7 +20,7 @@ use Rattle.age.proofs.RangedFrames.{frame-bounded}
 use Rattle.rule.specs.Rule.{Kept, Repetitions}
 use Rattle.filling.specs.Runs.{Placed}
 use Rattle.filling.specs.Filled.{needed, filled}
-use Rattle.filling.specs.ShownPlan.{ResultOf, EachResult}
+use Rattle.filling.specs.Shown.{ResultOf, EachResult}
 use Rattle.filling.proofs.FilledLaws.{filled-own, filled-some, filled-range}
 use Rattle.book.specs.Words.{wordAt, bytesOf}
 use Rattle.book.proofs.WordLaws.{word-in-front, word-of-bytes}

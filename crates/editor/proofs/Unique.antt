@@ -25,7 +25,7 @@ use Rattle.age.proofs.AgeGivenLaws.{age-given-unique}
 use Rattle.rule.specs.Rule.{RepetitionGiven}
 use Rattle.rule.proofs.RuleLaws.{repetition-given-unique}
 use Rattle.filling.specs.Runs.{Placed}
-use Rattle.filling.specs.ShownPlan.{EachResult}
+use Rattle.filling.specs.Shown.{EachResult}
 use Rattle.filling.proofs.Unique.{filled-same, same-list, words-one}
 use Rattle.book.specs.Words.{wordAt}
 use Rattle.book.specs.Reading.{settingsIn, listIn, bookRows}

@@ -10,7 +10,7 @@ use Rattle.terms.specs.Requests.{Request, PlanRoom}
 use Rattle.terms.specs.Ranges.{settingWord}
 use Rattle.rule.specs.Rule.{Repetitions}
 use Rattle.filling.specs.Filled.{filled}
-use Rattle.filling.specs.ShownPlan.{EachResult}
+use Rattle.filling.specs.Shown.{EachResult}
 use Rattle.book.specs.declared.Reading.{Reading}
 use Rattle.book.specs.Words.{wordAt}
 use Rattle.book.specs.Reading.{settingsIn, listIn}

@@ -24,7 +24,7 @@ use Rattle.cycles.specs.Frames.{Sends}
 use Rattle.cycles.proofs.FrameLaws.{sends-or-not}
 use Rattle.filling.specs.Runs.{Placed}
 use Rattle.filling.specs.Filled.{needed, filled}
-use Rattle.filling.specs.ShownPlan.{cellOf, CellsShow, ResultOf, ResultsShow}
+use Rattle.filling.specs.Shown.{cellOf, CellsShow, ResultOf, ResultsShow}
 use Rattle.filling.proofs.FilledLaws.{In, filled-own, filled-some, filled-only, filled-range, filled-apart}
 
 -- ---- a list made word by word

@@ -20,12 +20,12 @@ use Rattle.filling.specs.declared.run.Current.{Current}
 use Rattle.filling.specs.declared.run.Step.the-variants.{At, Trouble}
 use Rattle.filling.specs.Runs.{Placed, State, placed, after}
 use Rattle.filling.specs.Filled.{needed, fillFrom, filled}
-use Rattle.filling.specs.ShownPlan.{CellsShow, ResultsShow}
+use Rattle.filling.specs.Shown.{CellsShow, ResultsShow}
 use Rattle.filling.specs.Outcomes.{repetitionIn}
 use Rattle.filling.specs.Private.{Holds, Holding, Stepped, Paintable, placedAt, FrameShown, Runnable, Ran}
 use Rattle.filling.specs.Private.Stepped.{goes, trouble}
-use Rattle.filling.proofs.RunLaws.{Fits, Room, room-case}
-use Rattle.filling.proofs.RunLaws.Room.{stay, turn}
+use Rattle.filling.proofs.RunLaws.{Fits, GoesTo, goes-case}
+use Rattle.filling.proofs.RunLaws.GoesTo.{stay, turn}
 use Rattle.filling.proofs.GroupLaws.{stepped, stepped-each, Untroubled}
 use Rattle.filling.proofs.GroupLaws.Untroubled.{goes as goes-well}
 use Rattle.filling.proofs.LoadLaws.{needed-most}
@@ -39,25 +39,25 @@ use Rattle.filling.proofs.ShowLaws.{cells-more, results-more}
 abbrev pub currentIn : (begun free : List ℕ) → ℕ → Current
 currentIn begun free g = record { slot = record { unit = g; free = getD free g 0 }; begun = getD begun g 0 }
 
-held-as : {s : State} {c d : Current} → Holding s c → d .begun ≡ c .begun → d .slot .free ≡ c .slot .free
-    → Holding s d
-held-as {s} h b f = record { begun = b ∙ h .begun; cycles = subst (Holds (s .cycles)) (sym f) (h .cycles) }
+held-as : {u : ℕ} {s : State} {c d : Current} → Holding u s c → d .begun ≡ c .begun → d .slot .free ≡ c .slot .free
+    → Holding (d .slot .unit) s d
+held-as {s = s} h b f = record { unit = refl; begun = b ∙ h .begun; cycles = subst (Holds (s .cycles)) (sym f) (h .cycles) }
 
 -- ---- what a step tells
 
-module _ {s : State} {f : UnitFrame} where
-  step-frame : {x : Frame} {c : Current} → Stepped s f (At x c) → placed s f .frame ≡ x
+module _ {u : ℕ} {s : State} {f : UnitFrame} where
+  step-frame : {x : Frame} {c : Current} → Stepped u s f (At x c) → placed s f .frame ≡ x
   step-frame (goes n h) = refl
 
-  step-holds : {x : Frame} {c : Current} → Stepped s f (At x c) → Holding (after s f) c
+  step-holds : {x : Frame} {c : Current} → Stepped u s f (At x c) → Holding u (after s f) c
   step-holds (goes n h) = h
 
-  no-trouble : {k load : ℕ} → Fits k load s f → Stepped s f Trouble → ⊥
+  no-trouble : {k load : ℕ} → Fits k load s f → Stepped u s f Trouble → ⊥
   no-trouble h (trouble n) = n (record { below = h .below; free = λ c l e. h .free c e })
 
-room-least : {s r : State} → Room s r → s .begun ≤ r .begun
-room-least (stay h) = le-refl _
-room-least (turn h) = omega arith
+goes-least : {s r : State} → GoesTo s r → s .begun ≤ r .begun
+goes-least (stay h) = le-refl _
+goes-least (turn h) = omega arith
 
 -- ---- the first of frames that are in no trouble, and the rest
 
@@ -99,7 +99,7 @@ module _ (s : Settings) (list words cells₀ results₀ : List ℕ) where
     pub untroubled : Untroubled group (before list R) (load list R) now (drop i fs)
     pub many-begun : length begun ≡ groups
     pub many-free : length free ≡ groups
-    pub holds : (g : ℕ) → g < groups → Holding (now g) (currentIn begun free g)
+    pub holds : (g : ℕ) → g < groups → Holding g (now g) (currentIn begun free g)
     pub table : CellsShow (s .slots) places cells₀ cells
     pub shown : ResultsShow s list places results₀ results
 
@@ -109,10 +109,10 @@ module _ (s : Settings) (list words cells₀ results₀ : List ℕ) where
     pub few-begun : getD begun (group (f .signal)) 0 ≤ 600
     pub seven : Repetition (f .repetition)
     pub state : State
-    pub holds : (u : ℕ) → u ≡ group (f .signal) → Holding state (currentIn begun free u)
-    pub untroubled : Stepped state f Trouble → ⊥
-    pub paintable : (x : Frame) (c : Current) → Stepped state f (At x c) → Paintable cells x
-    pub goes-on : (x : Frame) (c : Current) → Stepped state f (At x c) → (u : ℕ) → u ≡ group (f .signal)
+    pub holds : (u : ℕ) → u ≡ group (f .signal) → Holding u state (currentIn begun free u)
+    pub untroubled : {u : ℕ} → Stepped u state f Trouble → ⊥
+    pub paintable : {u : ℕ} (x : Frame) (c : Current) → Stepped u state f (At x c) → Paintable cells x
+    pub goes-on : {u : ℕ} (x : Frame) (c : Current) → Stepped u state f (At x c) → u ≡ group (f .signal)
         → (cells′ results′ : List ℕ) → FrameShown s list (placedAt (f .signal) x) cells results cells′ results′
         → Filling cells′ results′ (set begun u (c .begun)) (set free u (c .slot .free)) (i + 1)
 
@@ -182,19 +182,19 @@ module _ (s : Settings) (list words cells₀ results₀ : List ℕ) where
             omega (
               arith,
               g .holds own own-group .begun,
-              room-least (room-case (g .now own)),
+              goes-least (goes-case (g .now own)),
               in-needed p here .slot,
               needed-most group R (count list) groups,
               runs .fillable .grouped .right .few,
             )
 
         -- the step placed the frame at x, and left the slot c
-        module _ (x : Frame) (c : Current) (t : Stepped (g .now own) f (At x c)) where
+        module _ {u : ℕ} (x : Frame) (c : Current) (t : Stepped u (g .now own) f (At x c)) where
           abbrev begun′ : ℕ → List ℕ
-          begun′ u = set begun u (c .begun)
+          begun′ k = set begun k (c .begun)
 
           abbrev free′ : ℕ → List ℕ
-          free′ u = set free u (c .slot .free)
+          free′ k = set free k (c .slot .free)
 
           x-paintable : Paintable cells x
           x-paintable =
@@ -204,9 +204,9 @@ module _ (s : Settings) (list words cells₀ results₀ : List ℕ) where
                 room = omega (arith, r .slot, runs .fillable .cells, g .table .same-length);
               }
 
-          holds-next : (k : ℕ) → k < groups → Holding (later k) (currentIn (begun′ own) (free′ own) k)
+          holds-next : (k : ℕ) → k < groups → Holding k (later k) (currentIn (begun′ own) (free′ own) k)
           holds-next k =
-              stepped-each group (λ n now. n < groups → Holding now (currentIn (begun′ own) (free′ own) n)) (g .now) f
+              stepped-each group (λ n now. n < groups → Holding n now (currentIn (begun′ own) (free′ own) n)) (g .now) f
               (λ l.
               held-as (step-holds t) (getD-set-same begun own (c .begun) 0 (omega (arith, g .many-begun)))
               (getD-set-same free own (c .slot .free) 0 (omega (arith, g .many-free))))
@@ -214,10 +214,10 @@ module _ (s : Settings) (list words cells₀ results₀ : List ℕ) where
               held-as (g .holds n l) (getD-set-other begun own n (c .begun) 0 d)
               (getD-set-other free own n (c .slot .free) 0 d)) k
 
-          filling-next : (u : ℕ) → u ≡ own → (cells′ results′ : List ℕ)
+          filling-next : u ≡ own → (cells′ results′ : List ℕ)
               → FrameShown s list (placedAt (f .signal) x) cells results cells′ results′
               → Filling cells′ results′ (begun′ u) (free′ u) (i + 1)
-          filling-next u e cells′ results′ shows =
+          filling-next e cells′ results′ shows =
               let is-p = ap (placedAt (f .signal)) (sym (step-frame t)) in
               let q = subst (λ (y : Placed). FrameShown s list y cells results cells′ results′) is-p shows in
               let apart = filled-apart list R (runs .fillable .grouped .seven) in
@@ -247,7 +247,7 @@ module _ (s : Settings) (list words cells₀ results₀ : List ℕ) where
               seven = first-fits going .seven;
               state = g .now own;
               holds = λ u e.
-                  subst (λ (n : ℕ). Holding (g .now own) (currentIn begun free n)) (sym e) (g .holds own own-group);
+                  subst (λ (n : ℕ). Holding n (g .now own) (currentIn begun free n)) (sym e) (g .holds own own-group);
               untroubled = no-trouble (first-fits going);
               paintable = x-paintable;
               goes-on = filling-next;

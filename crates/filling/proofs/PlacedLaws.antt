@@ -16,7 +16,7 @@ use Rattle.filling.specs.Runs.{Placed, State, placed, after}
 use Rattle.filling.specs.Filled.{fillFrom}
 use Rattle.filling.proofs.OrderLaws.{InTurn, Sooner}
 use Rattle.filling.proofs.OrderLaws.InTurn.{none, ahead}
-use Rattle.filling.proofs.RunLaws.{room-case, room-next}
+use Rattle.filling.proofs.RunLaws.{goes-case, goes-next}
 use Rattle.filling.proofs.CellLaws.{Gone, Past, gone-stays, sent-gone, passed-gone, gone-unsent, gone-or-sent}
 use Rattle.filling.proofs.GroupLaws.{current, stepped, stepped-each, last, Untroubled}
 use Rattle.filling.proofs.GroupLaws.Untroubled.{ended, goes}
@@ -199,6 +199,6 @@ module _ (group : ℕ → ℕ) where
     slots-used (goes {states} {f} fits u) g k l h =
         dite (ℕ-discrete (placeOf states f .frame .slot) k) (λ e. (placeOf states f, List·Memᴰ·head refl, e)) (λ n.
         let onward = stepped-each group (λ x s. states x .begun < k → s .begun < k) states f
-        (λ b. omega (arith, room-next (room-case (current group states f)), n, b)) (λ x d b. b) g l in
+        (λ b. omega (arith, goes-next (goes-case (current group states f)), n, b)) (λ x d b. b) g l in
         let r = slots-used u g k onward h in
         (r .0, List·Memᴰ·tail (r .1), r .2))

@@ -18,7 +18,7 @@ use Rattle.terms.proofs.RepetitionLaws.{repetition-positive, repetition-multipl
 use Rattle.cycles.specs.Loads.{slotsFor}
 use Rattle.filling.specs.declared.UnitFrame.{UnitFrame}
 use Rattle.filling.specs.Cycles.{takes, firstFree}
-use Rattle.filling.specs.Runs.{State, start, next, stayIf, room, after}
+use Rattle.filling.specs.Runs.{State, start, next, stayIf, goesTo, after}
 use Rattle.filling.proofs.CycleLaws.{takes-again, takes-sum, share-positive, first-free}
 
 -- behind k slots of others, where `left` of a load is to come and the last repetition was Q: no cycle is taken twice,
@@ -58,32 +58,32 @@ raised {Q} {R} {s = s} q r h g =
 
 -- ---- the slot that a frame goes to
 
-pub data Room (s : State) : State → Type 0 where
-  stay : firstFree (s .cycles) < 64 → Room s s
-  turn : 64 ≤ firstFree (s .cycles) → Room s (next s)
+pub data GoesTo (s : State) : State → Type 0 where
+  stay : firstFree (s .cycles) < 64 → GoesTo s s
+  turn : 64 ≤ firstFree (s .cycles) → GoesTo s (next s)
 
-pub room-case : (s : State) → Room s (room s)
-unfolding room
-room-case s = go (ltb (firstFree (s .cycles)) 64) refl
+pub goes-case : (s : State) → GoesTo s (goesTo s)
+unfolding goesTo
+goes-case s = go (ltb (firstFree (s .cycles)) 64) refl
   where
-    go : (t : Bool) → ltb (firstFree (s .cycles)) 64 ≡ t → Room s (stayIf t s)
+    go : (t : Bool) → ltb (firstFree (s .cycles)) 64 ≡ t → GoesTo s (stayIf t s)
     go true e = stay (ltb-true (firstFree (s .cycles)) 64 e)
     go false e = turn (ltb-false (firstFree (s .cycles)) 64 e)
 
-pub room-next : {s r : State} → Room s r → r .begun ≤ s .begun + 1
-room-next (stay h) = omega arith
-room-next (turn h) = le-refl _
+pub goes-next : {s r : State} → GoesTo s r → r .begun ≤ s .begun + 1
+goes-next (stay h) = omega arith
+goes-next (turn h) = le-refl _
 
 -- it has a free cycle
-room-free : {s r : State} → Room s r → firstFree (r .cycles) < 64
-room-free (stay h) = h
-room-free (turn h) =
+goes-free : {s r : State} → GoesTo s r → firstFree (r .cycles) < 64
+goes-free (stay h) = h
+goes-free (turn h) =
     let f = first-free (λ c. 0) in
     dite (decLt (firstFree (λ c. 0)) 64) (λ l. l) (λ l. absurd (f .before 0 (le-refl 0) (omega arith) refl))
 
-room-good : {Q k load left : ℕ} {s r : State} → Good Q k load left s → Room s r → Good Q k load left r
-room-good g (stay h) = g
-room-good {s = s} g (turn h) =
+goes-good : {Q k load left : ℕ} {s r : State} → Good Q k load left s → GoesTo s r → Good Q k load left r
+goes-good g (stay h) = g
+goes-good {s = s} g (turn h) =
     record {
       once = λ c. zero-le;
       again = λ c. refl;
@@ -102,10 +102,10 @@ room-good {s = s} g (turn h) =
 -- the next frame is not in trouble: where it goes, behind k slots of others and within those of a load
 pub record Fits (k load : ℕ) (s : State) (f : UnitFrame) : Type 0 where
   pub seven : Repetition (f .repetition)
-  pub below : firstFree (room s .cycles) < f .repetition
-  pub free : (c : ℕ) → c % f .repetition ≡ firstFree (room s .cycles) → room s .cycles c ≡ 0
-  pub past : k < room s .begun
-  pub within : room s .begun ≤ k + slotsFor load
+  pub below : firstFree (goesTo s .cycles) < f .repetition
+  pub free : (c : ℕ) → c % f .repetition ≡ firstFree (goesTo s .cycles) → goesTo s .cycles c ≡ 0
+  pub past : k < goesTo s .begun
+  pub within : goesTo s .begun ≤ k + slotsFor load
 
 module _
     (k load left : ℕ)
@@ -118,27 +118,27 @@ module _
     R = f .repetition
 
     abbrev base : ℕ
-    base = firstFree (room s .cycles)
+    base = firstFree (goesTo s .cycles)
 
-    here : Good R k load (64 / R + left) (room s)
-    here = room-good good (room-case s)
+    here : Good R k load (64 / R + left) (goesTo s)
+    here = goes-good good (goes-case s)
 
-    found : room s .cycles base ≡ 0
-    found = first-free (room s .cycles) .found (room-free (room-case s))
+    found : goesTo s .cycles base ≡ 0
+    found = first-free (goesTo s .cycles) .found (goes-free (goes-case s))
 
     below-repetition : base < R
     below-repetition =
         dite (decLt (base % R) base)
-        (λ l. absurd (first-free (room s .cycles) .before (base % R) zero-le l (sym (here .again base) ∙ found)))
+        (λ l. absurd (first-free (goesTo s .cycles) .before (base % R) zero-le l (sym (here .again base) ∙ found)))
         (λ l. omega (arith, mod-lt base (repetition-positive R seven), mod-le base R))
 
-    all-free : (c : ℕ) → c % R ≡ base → room s .cycles c ≡ 0
-    all-free c e = here .again c ∙ ap (room s .cycles) e ∙ found
+    all-free : (c : ℕ) → c % R ≡ base → goesTo s .cycles c ≡ 0
+    all-free c e = here .again c ∙ ap (goesTo s .cycles) e ∙ found
 
-    added : sum (after s f .cycles) 64 ≡ sum (room s .cycles) 64 + 64 / R
+    added : sum (after s f .cycles) 64 ≡ sum (goesTo s .cycles) 64 + 64 / R
     added =
-        sum-add (room s .cycles) (takes R base) 64
-        ∙ ap (λ (x : ℕ). sum (room s .cycles) 64 + x) (takes-sum R seven base below-repetition)
+        sum-add (goesTo s .cycles) (takes R base) 64
+        ∙ ap (λ (x : ℕ). sum (goesTo s .cycles) 64 + x) (takes-sum R seven base below-repetition)
 
     pub after-good : Good R k load left (after s f)
     after-good =

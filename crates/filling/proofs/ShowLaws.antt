@@ -24,7 +24,7 @@ use Rattle.terms.proofs.ResultsLaws.{result-stored, result-others}
 use Rattle.cycles.specs.Frames.{Names, Sends}
 use Rattle.cycles.proofs.FrameLaws.{sends-or-not}
 use Rattle.filling.specs.Runs.{Placed}
-use Rattle.filling.specs.ShownPlan.{cellOf, CellsShow, ResultOf, ResultsShow}
+use Rattle.filling.specs.Shown.{cellOf, CellsShow, ResultOf, ResultsShow}
 use Rattle.filling.specs.Private.{placedAt, Paintable, Painted, Resulted}
 
 -- cell j is the cell of a slot and a cycle

@@ -1,7 +1,7 @@
 -- The laws of the step that places a frame: what the routines of the slot's record promise is what filling does with the
 -- state that the record holds.
 -- Assumes nothing.
-use mathlib.Core.Path.{_≡_, sym, ap, ap₂, subst, _∙_}
+use mathlib.Core.Path.{_≡_, refl, sym, ap, ap₂, subst, _∙_}
 use mathlib.Core.Logic.{_⊎_, inl, inr, dite}
 use Prim.Native.Nat.{ℕ, _+_, _%_, _≤_, _<_, zero-le}
 use native.Mathlib.Decide.{decLt}
@@ -20,12 +20,12 @@ use Rattle.filling.specs.declared.UnitFrame.{UnitFrame}
 use Rattle.filling.specs.declared.run.Current.{Current}
 use Rattle.filling.specs.declared.run.Step.the-variants.{At}
 use Rattle.filling.specs.Cycles.{Cycles, takes, firstFree}
-use Rattle.filling.specs.Runs.{State, start, room, placed, after}
+use Rattle.filling.specs.Runs.{State, start, goesTo, placed, after}
 use Rattle.filling.specs.Private.{Holds, Holding, NoTrouble, Stepped}
 use Rattle.filling.specs.Private.Stepped.{goes}
 use Rattle.filling.proofs.CycleLaws.{First, first-free}
-use Rattle.filling.proofs.RunLaws.{Room, room-case}
-use Rattle.filling.proofs.RunLaws.Room.{stay, turn}
+use Rattle.filling.proofs.RunLaws.{GoesTo, goes-case}
+use Rattle.filling.proofs.RunLaws.GoesTo.{stay, turn}
 
 -- ---- the cycles that a slot's record holds
 
@@ -49,40 +49,42 @@ first-alike cycles s h r f =
         f .before (firstFree cycles) l (omega (arith, h (firstFree cycles) small, w .found small))
 
 -- nothing is free where a group begins
-pub start-holds : (k : ℕ) (c : Current) → c .begun ≡ k → c .slot .free ≡ 0 → Holding (start k) c
+pub start-holds : (k : ℕ) (c : Current) → c .begun ≡ k → c .slot .free ≡ 0 → Holding (c .slot .unit) (start k) c
 start-holds k c b f =
-    record { begun = b; cycles = λ d l. omega (arith, ap (λ (x : ℕ). bit x d) f, bit-none d) }
+    record { unit = refl; begun = b; cycles = λ d l. omega (arith, ap (λ (x : ℕ). bit x d) f, bit-none d) }
 
 -- ---- the slot that a frame goes to
 
-module _ {s : State} {c : Current} (r : ℕ) (h : Holding s c) (f : FirstFree (c .slot) r) where
+module _ {u : ℕ} {s : State} {c : Current} (r : ℕ) (h : Holding u s c) (f : FirstFree (c .slot) r) where
   alike : r ≡ firstFree (s .cycles)
   alike = first-alike (s .cycles) (c .slot) (h .cycles) r f
 
   -- the current one while it has a free cycle
-  pub room-kept : r < 64 → Holding (room s) c
-  room-kept l = go (room-case s)
+  pub goes-kept : r < 64 → Holding u (goesTo s) c
+  goes-kept l = go (goes-case s)
     where
-      go : {t : State} → Room s t → Holding t c
+      go : {t : State} → GoesTo s t → Holding u t c
       go (stay k) = h
       go (turn k) = absurd (omega (arith, alike))
 
   -- else the next
-  pub room-begun : (u : ℕ) (d : Current) → 64 ≤ r → Fresh u (d .slot) → d .begun ≡ c .begun + 1 → Holding (room s) d
-  room-begun u d l fresh e = go (room-case s)
+  pub goes-begun : (d : Current) → 64 ≤ r → Fresh (c .slot .unit) (d .slot) → d .begun ≡ c .begun + 1 → Holding u (goesTo s) d
+  goes-begun d l fresh e = go (goes-case s)
     where
-      go : {t : State} → Room s t → Holding t d
+      go : {t : State} → GoesTo s t → Holding u t d
       go (stay k) = absurd (omega (arith, alike))
-      go (turn k) = record { begun = omega (arith, h .begun); cycles = λ i j. omega (arith, fresh .free i j) }
+      go (turn k) =
+          record { unit = fresh .unit ∙ h .unit; begun = omega (arith, h .begun); cycles = λ i j. omega (arith, fresh .free i j) }
 
 -- ---- one frame, in the slot `to` that it goes to, whose first free cycle is b
 
 module _
+    {u : ℕ}
     (s : State)
     (f : UnitFrame)
     (seven : Repetition (f .repetition))
     (to : Current)
-    (h : Holding (room s) to)
+    (h : Holding u (goesTo s) to)
     (b : ℕ)
     (first : FirstFree (to .slot) b)
   where
@@ -90,10 +92,10 @@ module _
     R = f .repetition
 
     abbrev base : ℕ
-    base = firstFree (room s .cycles)
+    base = firstFree (goesTo s .cycles)
 
     base-alike : b ≡ base
-    base-alike = first-alike (room s .cycles) (to .slot) (h .cycles) b first
+    base-alike = first-alike (goesTo s .cycles) (to .slot) (h .cycles) b first
 
     -- each test that fails
     pub not-below : R ≤ b → NoTrouble s f → ⊥
@@ -105,7 +107,7 @@ module _
 
     -- and past them both
     module _ (below : b < R) (free : AllFree (to .slot) R b) where
-      untaken : (c : ℕ) → c < 64 → c % R ≡ base → room s .cycles c ≡ 0
+      untaken : (c : ℕ) → c < 64 → c % R ≡ base → goesTo s .cycles c ≡ 0
       untaken c l e = omega (arith, h .cycles c l, free c l (remainder-named seven below (e ∙ sym base-alike)))
 
       module _ (d : Current) (e : d .begun ≡ to .begun) (t : FrameTaken (to .slot) R b (d .slot)) where
@@ -117,7 +119,7 @@ module _
 
             go : {x : ℕ} → Shows (Free (to .slot) c × (Names R b c → ⊥)) x
                 → ((base ≡ c % R) × (takes R base c ≡ 1)) ⊎ ((base ≡ c % R → ⊥) × (takes R base c ≡ 0))
-                → room s .cycles c + takes R base c + x ≡ 1
+                → goesTo s .cycles c + takes R base c + x ≡ 1
             go (set g) (inl q) = absurd (g .1 (named (q .0)))
             go (set g) (inr q) = omega (arith, h .cycles c l, g .0, q .1)
             go (clear g) (inl q) = omega (arith, untaken c l (sym (q .0)), q .1)
@@ -127,10 +129,10 @@ module _
                 (λ p. absurd (g (omega (arith, bit-lt (to .slot .free) c), unnamed)))
                 (λ p. omega (arith, h .cycles c l, q .1))
 
-        pub frame-placed : Stepped s f (At (record { slot = to .begun; repetition = R; base = b }) d)
+        pub frame-placed : Stepped u s f (At (record { slot = to .begun; repetition = R; base = b }) d)
         frame-placed =
             let there : placed s f .frame ≡ record { slot = to .begun; repetition = R; base = b } =
             ap₂ (λ (k x : ℕ). record { slot = k; repetition = R; base = x }) (sym (h .begun)) (sym base-alike) in
-            subst (λ (x : Frame). Stepped s f (At x d)) there
+            subst (λ (x : Frame). Stepped u s f (At x d)) there
             (goes (record { below = omega (arith, base-alike); free = untaken })
-            (record { begun = e ∙ h .begun; cycles = taken-holds }))
+            (record { unit = t .unit ∙ h .unit; begun = e ∙ h .begun; cycles = taken-holds }))

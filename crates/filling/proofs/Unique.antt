@@ -25,7 +25,7 @@ use Rattle.filling.specs.Ordered.{ordered}
 use Rattle.filling.specs.Ordered.{ordered}
 use Rattle.filling.specs.Runs.{Placed, start}
 use Rattle.filling.specs.Filled.{framesFrom, fillFrom, filled}
-use Rattle.filling.specs.ShownPlan.{cellOf, CellsShow, ResultOf, EachResult, ResultsShow}
+use Rattle.filling.specs.Shown.{cellOf, CellsShow, ResultOf, EachResult, ResultsShow}
 use Rattle.filling.specs.Outcomes.{repetitionIn, FillOutcome}
 use Rattle.filling.specs.Outcomes.FillOutcome.{unfit, short, done}
 use Rattle.filling.proofs.LoadLaws.{needed-same}

@@ -8,9 +8,9 @@ use Rattle.terms.specs.Ranges.{Repetition}
 use Rattle.terms.specs.Lists.{CountInRange, count, groupOf, groups}
 use Rattle.terms.specs.Results.{resultSize}
 use Rattle.filling.specs.declared.Filled.{Filled}
-use Rattle.filling.specs.declared.Filled.the-variants.{Slots, Short, Unfit}
+use Rattle.filling.specs.declared.Filled.the-variants.{Done, Short, Unfit}
 use Rattle.filling.specs.Filled.{needed, filled}
-use Rattle.filling.specs.ShownPlan.{CellsShow, ResultsShow}
+use Rattle.filling.specs.Shown.{CellsShow, ResultsShow}
 
 -- the repetitions of signals numbered from 1, as words
 abbrev pub repetitionIn : List ℕ → ℕ → ℕ
@@ -41,4 +41,4 @@ pub data FillOutcome (x : Request) (words : List ℕ) (lent : PlanRoom) : Filled
       needed (x .list) (repetitionIn words) ≤ x .settings .slots →
       CellsShow (x .settings .slots) (filled (x .list) (repetitionIn words)) (lent .cells) cells →
       ResultsShow (x .settings) (x .list) (filled (x .list) (repetitionIn words)) (lent .results) results →
-      FillOutcome x words lent (Slots (needed (x .list) (repetitionIn words))) (planRoom cells results)
+      FillOutcome x words lent (Done (needed (x .list) (repetitionIn words))) (planRoom cells results)

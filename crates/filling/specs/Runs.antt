@@ -30,20 +30,20 @@ abbrev pub stayIf : Bool → State → State
 stayIf true s = s
 stayIf false s = next s
 
-unfoldable pub room : State → State
-room s = stayIf (ltb (firstFree (s .cycles)) 64) s
+unfoldable pub goesTo : State → State
+goesTo s = stayIf (ltb (firstFree (s .cycles)) 64) s
 
 -- where a frame is placed, and the state after it
 abbrev pub placed : State → UnitFrame → Placed
 placed s f =
     record {
       signal = f .signal;
-      frame = record { slot = room s .begun; repetition = f .repetition; base = firstFree (room s .cycles) };
+      frame = record { slot = goesTo s .begun; repetition = f .repetition; base = firstFree (goesTo s .cycles) };
     }
 
 abbrev pub after : State → UnitFrame → State
 after s f =
     record {
-      begun = room s .begun;
-      cycles = λ c. room s .cycles c + takes (f .repetition) (firstFree (room s .cycles)) c;
+      begun = goesTo s .begun;
+      cycles = λ c. goesTo s .cycles c + takes (f .repetition) (firstFree (goesTo s .cycles)) c;
     }

@@ -2,7 +2,7 @@
 ghost use Prim.Native.Nat.{_-_, _^_, _<_};
 ghost use Rattle.terms.specs.Ranges.{Repetition};
 ghost use Rattle.cycles.specs.Slots.{FrameTaken};
-ghost use Rattle.filling.specs.Private.{Roomed, StepOf, Runnable, Ran};
+ghost use Rattle.filling.specs.Private.{GoneTo, StepOf, Runnable, Ran};
 use crate::UnitFrame;
 use crate::gather;
 use crate::groups::GROUPS;
@@ -25,9 +25,9 @@ pub enum Step {
 }
 
 // The slot that a frame goes to: the current one while that has a free cycle, else the next.
-fn room(current: Current) -> Current
+fn goes_to(current: Current) -> Current
     requires { ⌜ current .begun < 2 ^ 32 - 1 ⌝ }
-    ensures { λ r. ⌜ Roomed current r ⌝ }
+    ensures { λ r. ⌜ GoneTo current r ⌝ }
 {
     let slot = current.slot;
     if slot.first_free() < 64 {
@@ -53,7 +53,7 @@ fn place(current: Current, f: UnitFrame) -> Step
     requires { ⌜ (current .begun < 2 ^ 32 - 1) × Repetition (f .repetition) ⌝ }
     ensures { λ r. ⌜ StepOf current f r ⌝ }
 {
-    let to = room(current);
+    let to = goes_to(current);
     let slot = to.slot;
     let base = slot.first_free();
     if f.repetition <= base {

@@ -2,7 +2,7 @@
 ghost use mathlib.Core.List.{[]};
 ghost use Prim.Native.Nat.{_*_, _≤_};
 ghost use lib.ListN.{length};
-ghost use Rattle.filling.specs.ShownPlan.{CellsShow};
+ghost use Rattle.filling.specs.Shown.{CellsShow};
 ghost use Rattle.filling.specs.Private.{placedAt, Paintable, Painted, FrameShown};
 use terms::Frame;
 use terms::Result;

@@ -15,7 +15,7 @@ use Rattle.terms.specs.Lists.{CountInRange, count, signalAt, EachSignal}
 use Rattle.rule.specs.Rule.{Kept, Repetitions}
 use Rattle.filling.specs.Outcomes.{repetitionIn}
 use Rattle.filling.specs.declared.Filled.{Filled}
-use Rattle.filling.specs.declared.Filled.the-variants.{Slots, Short, Taken, Unfit}
+use Rattle.filling.specs.declared.Filled.the-variants.{Done, Short, Taken, Unfit}
 use Rattle.planner.specs.Rows.{lentRows, fieldRow, boundRow}
 
 -- m is the count of a list that is in range
@@ -47,7 +47,7 @@ pub record Judged (x : Request) (cells results : ℕ) (a : Answer) (words : List
 
 -- planning's answer of what filling gives
 abbrev pub answerOf : Filled → Answer
-answerOf (Slots n) = answer.Done n
+answerOf (Done n) = answer.Done n
 answerOf (Short n) = answer.Slots n
 answerOf (Taken i) = answer.Taken i
 answerOf Unfit = answer.Taken 0

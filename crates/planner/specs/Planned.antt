@@ -6,7 +6,7 @@ use Rattle.terms.specs.Answers.{numberOf, Answers}
 use Rattle.terms.specs.Requests.{Request, PlanRoom}
 use Rattle.rule.specs.Rule.{Repetitions}
 use Rattle.filling.specs.Filled.{filled}
-use Rattle.filling.specs.ShownPlan.{CellsShow, ResultsShow}
+use Rattle.filling.specs.Shown.{CellsShow, ResultsShow}
 use Rattle.planner.specs.Rows.{Needed, planningRows}
 
 -- the cells and the results show the filling with repetitions R, which are the rule's

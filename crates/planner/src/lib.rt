@@ -28,7 +28,7 @@ fn answered(filled: Filled) -> Answer
     ensures { λ r. ⌜ r ≡ answerOf filled ⌝ }
 {
     match filled {
-        Filled::Slots(slots) => Answer::Done(slots),
+        Filled::Done(slots) => Answer::Done(slots),
         Filled::Short(slots) => Answer::Slots(slots),
         Filled::Taken(signal) => Answer::Taken(signal),
         Filled::Unfit => Answer::Taken(0),

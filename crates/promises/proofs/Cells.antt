@@ -14,7 +14,7 @@ use Rattle.cycles.specs.Frames.{Sends}
 use Rattle.cycles.proofs.FrameLaws.{sends-or-not}
 use Rattle.filling.specs.Runs.{Placed}
 use Rattle.filling.specs.Filled.{filled}
-use Rattle.filling.specs.ShownPlan.{cellOf, CellsShow}
+use Rattle.filling.specs.Shown.{cellOf, CellsShow}
 use Rattle.filling.proofs.FilledLaws.{filled-own, filled-some}
 use Rattle.promises.specs.Demand2.{TableShown}
 use Rattle.promises.proofs.Clock.{starts-shown}

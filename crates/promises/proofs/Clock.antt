@@ -17,7 +17,7 @@ use Rattle.terms.proofs.RepetitionLaws.{repetition-most, repetition-multiple}
 use Rattle.age.specs.Age.{Start, firstStart, spanOf}
 use Rattle.cycles.proofs.FrameLaws.{remainder-named}
 use Rattle.cycles.specs.Frames.{Sends}
-use Rattle.filling.specs.ShownPlan.{cellOf}
+use Rattle.filling.specs.Shown.{cellOf}
 use Rattle.promises.specs.Demand2.{StartsAt}
 
 -- a repetition divides 64, so a cycle and its remainder by 64 leave the same by it

@@ -15,7 +15,7 @@ use Rattle.terms.specs.Lists.{CountInRange, count, EachSignal}
 use Rattle.terms.specs.Results.{resultSize}
 use Rattle.rule.specs.Rule.{Kept, Repetitions}
 use Rattle.filling.specs.Filled.{needed, filled}
-use Rattle.filling.specs.ShownPlan.{CellsShow, EachResult}
+use Rattle.filling.specs.Shown.{CellsShow, EachResult}
 use Rattle.book.specs.Words.{wordAt}
 use Rattle.book.specs.Reading.{settingsIn, listIn, bookRows}
 use Rattle.book.proofs.AcceptedLaws.{list-in-range}

@@ -15,7 +15,7 @@ use Rattle.terms.specs.declared.Frame.{Frame}
 use Rattle.terms.specs.Ranges.{FrameInRange}
 use Rattle.terms.proofs.RepetitionLaws.{repetition-most}
 use Rattle.cycles.specs.Frames.{Sends}
-use Rattle.filling.specs.ShownPlan.{cellOf}
+use Rattle.filling.specs.Shown.{cellOf}
 use Rattle.filling.specs.Drawn.{slotUsed, slotsUsed}
 use Rattle.promises.specs.Demand2.{TableShown}
 use Rattle.promises.specs.Tables.{slotsShown}

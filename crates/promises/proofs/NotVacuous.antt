@@ -23,7 +23,7 @@ use Rattle.terms.specs.Requests.{Request, PlanRoom, planRoom}
 use Rattle.age.proofs.AgeTests.{age-test}
 use Rattle.rule.specs.Rule.{Keeps, segment, Kept, Repetitions}
 use Rattle.cycles.specs.Frames.{Sends}
-use Rattle.filling.specs.ShownPlan.{cellOf}
+use Rattle.filling.specs.Shown.{cellOf}
 use Rattle.filling.specs.Filled.{needed}
 use Rattle.filling.specs.Drawn.{Drawn, slotsUsed}
 use Rattle.planner.specs.Rows.{Needed, planningRows}

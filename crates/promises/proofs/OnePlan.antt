@@ -22,7 +22,7 @@ use Rattle.terms.proofs.ResultsLaws.{same-words}
 use Rattle.age.specs.Age.{firstStart, spanOf, Age}
 use Rattle.age.proofs.AgeLaws.{age-unique}
 use Rattle.cycles.specs.Frames.{Sends}
-use Rattle.filling.specs.ShownPlan.{cellOf}
+use Rattle.filling.specs.Shown.{cellOf}
 use Rattle.filling.specs.Drawn.{Drawn, Before, FillingShown}
 use Rattle.planner.proofs.PlannedLaws.{repetitions-same}
 use Rattle.promises.specs.Shows.{frameOf, ageOf}

@@ -21,7 +21,7 @@ use Rattle.age.specs.Age.{Age, firstStart, spanOf}
 use Rattle.age.proofs.AgeLaws.{age-unique}
 use Rattle.age.proofs.AgeTests.{age-test}
 use Rattle.cycles.specs.Frames.{Names, Sends}
-use Rattle.filling.specs.ShownPlan.{cellOf}
+use Rattle.filling.specs.Shown.{cellOf}
 use Rattle.filling.specs.Drawn.{slotsUsed, FillingShown}
 use Rattle.book.specs.Words.{AllBelow, wordAt}
 use Rattle.book.specs.Blocks.{bookWord, bookOf, writingRows}

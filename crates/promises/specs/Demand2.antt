@@ -17,7 +17,7 @@ use Rattle.terms.specs.Lists.{signalSize, count, signalAt}
 use Rattle.terms.specs.declared.Result.{Result}
 use Rattle.terms.specs.Results.{resultSize, resultAt}
 use Rattle.cycles.specs.Frames.{Sends}
-use Rattle.filling.specs.ShownPlan.{cellOf}
+use Rattle.filling.specs.Shown.{cellOf}
 use Rattle.editor.specs.Rows.{resultBytes}
 use Rattle.book.specs.Words.{AllBelow}
 use Rattle.book.specs.Blocks.{AreWords, blocksFor, bookOf}

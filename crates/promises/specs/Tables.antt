@@ -8,7 +8,7 @@ use Rattle.terms.specs.declared.Frame.{Frame}
 use Rattle.terms.specs.Lists.{count, signalAt, groupOf}
 use Rattle.rule.specs.Rule.{Keeps, segment}
 use Rattle.filling.specs.Drawn.{Drawn}
-use Rattle.filling.specs.ShownPlan.{cellOf}
+use Rattle.filling.specs.Shown.{cellOf}
 
 -- each signal i has one frame, `frame i`: they are drawn rightly, and their repetitions keep the bounds
 pub record Table (s : Settings) (list : List ℕ) (frame : ℕ → Frame) : Type 0 where

@@ -9,50 +9,50 @@ use Rattle.filling.proofs.StepLaws.{not-below, not-free, frame-placed}
 use Rattle.filling.proofs.run.place.Statement.{statement}
 use Rattle.filling.proofs.run.place.Tie as tie
 
-room-requires : tie.Need-room-requires
-room-requires c κs = search needs
+goes-to-requires : tie.Need-goes-to-requires
+goes-to-requires c κs = search needs
 
 first-free-requires : tie.Need-first-free-requires
 first-free-requires c κs = search needs
 
 returns : tie.Need-returns
-returns c s h =
+returns c u s h =
     let f = c .before .before in
     let to = f .before .before in
     let b = f .first-free in
     trouble
-    (not-below s _ (to .before .pre .1) (to .room .result) (to .room .ensures s h) (b .result) (b .ensures) (omega arith))
+    (not-below s _ (to .before .pre .1) (to .goes-to .result) (to .goes-to .ensures u s h) (b .result) (b .ensures) (omega arith))
 
 all-free-requires : tie.Need-all-free-requires
 all-free-requires c κs = search needs
 
 returns-2 : tie.Need-returns-2
-returns-2 c s h =
+returns-2 c u s h =
     let all = c .before .all-free in
     let f = c .before .before .before .before in
     let to = f .before .before in
     let b = f .first-free in
     trouble
-    (not-free s _ (to .before .pre .1) (to .room .result) (to .room .ensures s h) (b .result) (b .ensures)
+    (not-free s _ (to .before .pre .1) (to .goes-to .result) (to .goes-to .ensures u s h) (b .result) (b .ensures)
     (refused (all .result) (all .ensures) (c .if2 .taken)))
 
 with-frame-requires : tie.Need-with-frame-requires
 with-frame-requires c κs = search needs
 
 returns-3 : tie.Need-returns-3
-returns-3 c s h =
+returns-3 c u s h =
     let all = c .before .before .all-free in
     let f = c .before .before .before .before .before in
     let to = f .before .before in
     let b = f .first-free in
-    frame-placed s _ (to .before .pre .1) (to .room .result) (to .room .ensures s h) (b .result) (b .ensures) (omega arith)
+    frame-placed s _ (to .before .pre .1) (to .goes-to .result) (to .goes-to .ensures u s h) (b .result) (b .ensures) (omega arith)
     (granted (all .result) (all .ensures) (c .before .if2 .left)) _ refl (c .with-frame .ensures)
 
 pub place-spec : {M : Type 1} → statement M
 place-spec =
     tie.close
     (tie.spec
-    room-requires
+    goes-to-requires
     first-free-requires
     returns
     all-free-requires

@@ -58,17 +58,17 @@ own : (k : tie.After-group-of Inv-loop μ-loop) → k .group-of .result < groups
 own k = omega (arith, here k .in-groups, k .group-of .ensures)
 
 -- what the step comes to
-step : (k : tie.After-place Inv-loop μ-loop) → Stepped (here (k .before) .state) (next (k .before)) (k .place .result)
+step : (k : tie.After-place Inv-loop μ-loop) → Stepped (k .before .group-of .result) (here (k .before) .state) (next (k .before)) (k .place .result)
 step k =
     let g = k .before in
-    k .place .ensures (here g .state) (here g .holds (g .group-of .result) (g .group-of .ensures))
+    k .place .ensures (g .group-of .result) (here g .state) (here g .holds (g .group-of .result) (g .group-of .ensures))
 
 placed : (t : tie.After-frame Inv-loop μ-loop)
     → let k = t .before .before in
-    Stepped (here (k .before) .state) (next (k .before)) (At (t .frame .given .0 .0) (t .frame .given .0 .1 .0))
+    Stepped (k .before .group-of .result) (here (k .before) .state) (next (k .before)) (At (t .frame .given .0 .0) (t .frame .given .0 .1 .0))
 placed t =
     let k = t .before .before in
-    subst (Stepped (here (k .before) .state) (next (k .before))) (t .frame .given .1) (step k)
+    subst (Stepped (k .before .group-of .result) (here (k .before) .state) (next (k .before))) (t .frame .given .1) (step k)
 
 count-requires : tie.Need-count-requires Inv-loop μ-loop
 count-requires c κs = search needs
@@ -133,7 +133,7 @@ returns : tie.Need-returns Inv-loop μ-loop
 returns c =
     let k = c .before .before in
     let g = here (k .before) in
-    absurd (g .untroubled (subst (Stepped (g .state) (next (k .before))) (c .enum-told .given .1) (step k)))
+    absurd (g .untroubled (subst (Stepped (k .before .group-of .result) (g .state) (next (k .before))) (c .enum-told .given .1) (step k)))
 
 mul-free : tie.Need-mul-free Inv-loop μ-loop
 mul-free c = omega arith
@@ -163,7 +163,7 @@ loop-again c =
     let w = c .before .before .before .before in
     let t = w .before .before .before .before .before in
     let k = t .before .before .before in (
-      here k .goes-on _ _ (placed t) (k .group-of .result) (k .group-of .ensures) (w .show .last .1 .1 .1 .1 .0)
+      here k .goes-on _ _ (placed t) (k .group-of .ensures) (w .show .last .1 .1 .1 .1 .0)
           (w .show .last .1 .1 .1 .1 .1 .0) (w .show .ensures),
       Loop k .loop .inv .1,
     )

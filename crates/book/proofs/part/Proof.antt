@@ -15,18 +15,6 @@ use Rattle.book.proofs.part.Tie as tie
 there : (c : tie.Else1) → HasSignal (c .before .before .before .args .book .now) (c .before .before .before .args .i)
 there c = granted (c .before .has-signal .result) (c .before .has-signal .ensures) (c .if1 .left)
 
-has-signal-requires : tie.Need-has-signal-requires
-has-signal-requires c κs = search needs
-
-sub-result : tie.Need-sub-result
-sub-result c = search needs
-
-part-result-start : tie.Need-part-result-start
-part-result-start c = search needs
-
-part-result-end : tie.Need-part-result-end
-part-result-end c = search needs
-
 returns : tie.Need-returns
 returns c =
     let call = c .before .before in
@@ -37,15 +25,6 @@ returns c =
 
 part-start-requires : tie.Need-part-start-requires
 part-start-requires c κs = there c .1 .0
-
-add-result : tie.Need-add-result
-add-result c = search needs
-
-sub-result-2 : tie.Need-sub-result-2
-sub-result-2 c = search needs
-
-part-result-start-2 : tie.Need-part-result-start-2
-part-result-start-2 c = search needs
 
 part-result-end-2 : tie.Need-part-result-end-2
 part-result-end-2 c = omega (arith, part-inside _ _ (there (c .before)), c .part-start .ensures)
@@ -65,15 +44,5 @@ returns-2 c =
 pub part-spec : {M : Type 1} → statement M
 part-spec =
     tie.close
-    (tie.spec
-    has-signal-requires
-    sub-result
-    part-result-start
-    part-result-end
-    returns
-    part-start-requires
-    add-result
-    sub-result-2
-    part-result-start-2
-    part-result-end-2
-    returns-2)
+    (tie.spec (λ c κs. search needs) (λ c. search needs) (λ c. search needs) (λ c. search needs) returns
+    part-start-requires (λ c. search needs) (λ c. search needs) (λ c. search needs) part-result-end-2 returns-2)

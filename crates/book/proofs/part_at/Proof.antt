@@ -7,9 +7,6 @@ use Rattle.book.specs.Part.{HasSignal}
 use Rattle.book.proofs.part_at.Statement.{statement}
 use Rattle.book.proofs.part_at.Tie as tie
 
-has-signal-requires : tie.Need-has-signal-requires
-has-signal-requires c κs = search needs
-
 returns : tie.Need-returns
 returns c = given-outside _ _ (refused (c .before .has-signal .result) (c .before .has-signal .ensures) (c .if1 .taken))
 
@@ -24,4 +21,4 @@ returns-2 : tie.Need-returns-2
 returns-2 c = given-inside _ _ _ (there (c .before)) (c .part-start .ensures)
 
 pub part-at-spec : {M : Type 1} → statement M
-part-at-spec = tie.close (tie.spec has-signal-requires returns part-start-requires returns-2)
+part-at-spec = tie.close (tie.spec (λ c κs. search needs) returns part-start-requires returns-2)

@@ -25,20 +25,8 @@ returns c =
 loop-holds : tie.Need-loop-holds Inv-loop μ-loop
 loop-holds c = (omega arith, over-none _ _)
 
-mul-put-word : tie.Need-mul-put-word Inv-loop μ-loop
-mul-put-word c = search needs
-
-shared-slice-read-put-word : tie.Need-shared-slice-read-put-word Inv-loop μ-loop
-shared-slice-read-put-word c = search needs
-
 put-word-requires : tie.Need-put-word-requires Inv-loop μ-loop
 put-word-requires c κs = search needs
-
-add-p : tie.Need-add-p Inv-loop μ-loop
-add-p c = search needs
-
-loop-less : tie.Need-loop-less Inv-loop μ-loop
-loop-less c = search needs
 
 loop-again : tie.Need-loop-again Inv-loop μ-loop
 loop-again c =
@@ -59,16 +47,5 @@ returns-2 c =
 pub put-words-spec : {M : Type 1} → statement M
 put-words-spec =
     tie.close
-    (tie.spec
-    Inv-loop
-    μ-loop
-    returns
-    loop-holds
-    mul-put-word
-    shared-slice-read-put-word
-    put-word-requires
-    add-p
-    loop-less
-    loop-again
-    same-length
-    returns-2)
+    (tie.spec Inv-loop μ-loop returns loop-holds (λ c. search needs) (λ c. search needs) put-word-requires
+    (λ c. search needs) (λ c. search needs) loop-again same-length returns-2)

@@ -29,37 +29,16 @@ judged c =
     let judge = c .before .before .judge in
     judged-sound (begin c .args .book .now) (judge .result) (judge .ensures) (omega (arith, c .before .number .ensures))
 
-judge-requires : tie.Need-judge-requires
-judge-requires c κs = search needs
-
-number-requires : tie.Need-number-requires
-number-requires c κs = search needs
-
-no-settings-requires : tie.Need-no-settings-requires
-no-settings-requires c κs = search needs
-
 returns : tie.Need-returns
 returns c =
     let number = c .before .before in
     read-refused _ _ _ (number .before .judge .ensures) (λ z. omega (arith, number .number .ensures))
     (c .no-settings .ensures)
 
-place-requires : tie.Need-place-requires
-place-requires c κs = search needs
-
-cast-count : tie.Need-cast-count
-cast-count c = search needs
-
-mul-count : tie.Need-mul-count
-mul-count c = search needs
-
 cast-t9 : tie.Need-cast-t9
 cast-t9 c =
     let sound = judged (c .before .before) in
     omega (arith, sound .1, sound-count _ (sound .0) .0, c .before .place .ensures)
-
-no-settings-requires-2 : tie.Need-no-settings-requires-2
-no-settings-requires-2 c κs = search needs
 
 returns-2 : tie.Need-returns-2
 returns-2 c =
@@ -79,9 +58,6 @@ settings-in-requires c κs =
     let right = sound-length _ (judged (c .before .before .before .before .before .before) .0) in
     omega (arith, right .some, right .whole)
 
-same-length : tie.Need-same-length
-same-length c = search needs
-
 returns-3 : tie.Need-returns-3
 unfolding listIn
 returns-3 c =
@@ -99,18 +75,6 @@ returns-3 c =
 pub read-spec : {M : Type 1} → statement M
 read-spec =
     tie.close
-    (tie.spec
-    judge-requires
-    number-requires
-    no-settings-requires
-    returns
-    place-requires
-    cast-count
-    mul-count
-    cast-t9
-    no-settings-requires-2
-    returns-2
-    copy-list-requires
-    settings-in-requires
-    same-length
-    returns-3)
+    (tie.spec (λ c κs. search needs) (λ c κs. search needs) (λ c κs. search needs) returns
+    (λ c κs. search needs) (λ c. search needs) (λ c. search needs) cast-t9 (λ c κs. search needs) returns-2
+    copy-list-requires settings-in-requires (λ c. search needs) returns-3)

@@ -8,15 +8,6 @@ use Rattle.book.proofs.SoundLaws.{sound-length, judged-sound, judged-un
 use Rattle.book.proofs.settings_of.Statement.{statement}
 use Rattle.book.proofs.settings_of.Tie as tie
 
-judge-requires : tie.Need-judge-requires
-judge-requires c κs = search needs
-
-number-requires : tie.Need-number-requires
-number-requires c κs = search needs
-
-no-settings-requires : tie.Need-no-settings-requires
-no-settings-requires c κs = search needs
-
 returns : tie.Need-returns
 returns c =
     let judge = c .before .before .before in
@@ -42,10 +33,5 @@ returns-2 c = record { sound = λ h. c .settings-in .ensures; unsound = λ n. ab
 pub settings-of-spec : {M : Type 1} → statement M
 settings-of-spec =
     tie.close
-    (tie.spec
-    judge-requires
-    number-requires
-    no-settings-requires
-    returns
-    settings-in-requires
+    (tie.spec (λ c κs. search needs) (λ c κs. search needs) (λ c κs. search needs) returns settings-in-requires
     returns-2)

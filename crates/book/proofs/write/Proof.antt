@@ -25,22 +25,13 @@ own-blocks : (c : tie.After-blocks-for)
     → c .blocks-for .result ≡ blocksFor (count (begin (c .before .before) .args .list .now))
 own-blocks c = c .blocks-for .ensures ∙ ap blocksFor (c .before .count .ensures)
 
-count-in-range-requires : tie.Need-count-in-range-requires
-count-in-range-requires c κs = search needs
-
 returns : tie.Need-returns
 returns c =
     let test = c .before .count-in-range in
     write-refused _ _ _ (refused (test .result) (test .ensures) (c .if1 .taken))
 
-count-requires : tie.Need-count-requires
-count-requires c κs = search needs
-
 blocks-for-requires : tie.Need-blocks-for-requires
 blocks-for-requires c κs = omega (arith, in-range (c .before) .few, c .count .ensures)
-
-mul-bytes : tie.Need-mul-bytes
-mul-bytes c = search needs
 
 cast-t9 : tie.Need-cast-t9
 cast-t9 c =
@@ -62,9 +53,6 @@ cast-t13 c =
     let made = c .before .before .before .before .before in
     omega (arith, in-range (made .before .before) .few, own-blocks made)
 
-same-length : tie.Need-same-length
-same-length c = search needs
-
 returns-3 : tie.Need-returns-3
 unfolding bookOf
 returns-3 c =
@@ -82,15 +70,5 @@ returns-3 c =
 pub write-spec : {M : Type 1} → statement M
 write-spec =
     tie.close
-    (tie.spec
-    count-in-range-requires
-    returns
-    count-requires
-    blocks-for-requires
-    mul-bytes
-    cast-t9
-    returns-2
-    fill-requires
-    cast-t13
-    same-length
-    returns-3)
+    (tie.spec (λ c κs. search needs) returns (λ c κs. search needs) blocks-for-requires (λ c. search needs)
+    cast-t9 returns-2 fill-requires cast-t13 (λ c. search needs) returns-3)

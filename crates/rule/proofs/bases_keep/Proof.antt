@@ -45,12 +45,6 @@ returns c =
 add-at : tie.Need-add-at Inv-loop μ-loop
 add-at c = let near = within (c .before .before) in omega arith
 
-add-b : tie.Need-add-b Inv-loop μ-loop
-add-b c = omega arith
-
-loop-less : tie.Need-loop-less Inv-loop μ-loop
-loop-less c = omega arith
-
 loop-again : tie.Need-loop-again Inv-loop μ-loop
 loop-again c =
     let l = c .before .before .before in
@@ -67,4 +61,5 @@ returns-2 c =
 pub bases-keep-spec : {M : Type 1} → statement M
 bases-keep-spec =
     tie.close
-    (tie.spec Inv-loop μ-loop loop-holds slots-keep-requires returns add-at add-b loop-less loop-again returns-2)
+    (tie.spec Inv-loop μ-loop loop-holds slots-keep-requires returns add-at (λ c. omega arith)
+    (λ c. omega arith) loop-again returns-2)

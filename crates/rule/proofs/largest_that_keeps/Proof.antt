@@ -32,9 +32,6 @@ returns c =
     left-found (Kept (l .before)) (l .loop .r) (l .loop .inv) (λ z. omega arith)
     (said (c .before .keeps .result) (c .before .keeps .ensures) (c .if1 .taken))
 
-loop-less : tie.Need-loop-less Inv-loop μ-loop
-loop-less c = omega arith
-
 loop-again : tie.Need-loop-again Inv-loop μ-loop
 loop-again c =
     let l = c .before .before .before in
@@ -49,4 +46,4 @@ returns-2 c =
 pub largest-that-keeps-spec : {M : Type 1} → statement M
 largest-that-keeps-spec =
     tie.close
-    (tie.spec Inv-loop μ-loop loop-holds keeps-requires returns loop-less loop-again returns-2)
+    (tie.spec Inv-loop μ-loop loop-holds keeps-requires returns (λ c. omega arith) loop-again returns-2)

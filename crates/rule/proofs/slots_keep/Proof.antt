@@ -22,9 +22,6 @@ Kept c = WaitKept (c .args .limit) (c .args .g) (c .args .slot) (c .args .bound)
 loop-holds : tie.Need-loop-holds Inv-loop μ-loop
 loop-holds c = passed-none (Kept c) (c .args .n) (c .args .slot) (c .args .slots)
 
-longest-wait-requires : tie.Need-longest-wait-requires Inv-loop μ-loop
-longest-wait-requires c κs = search needs
-
 add-if1 : tie.Need-add-if1 Inv-loop μ-loop
 add-if1 c =
     let a = c .before .before .before .args in
@@ -43,12 +40,6 @@ add-at c =
     let a = l .before .args in
     omega (arith, passed-below (Kept (l .before)) (a .n) (a .slot) (a .slots) (l .loop .k) (l .loop .at) (l .loop .inv) (omega arith))
 
-add-k : tie.Need-add-k Inv-loop μ-loop
-add-k c = omega arith
-
-loop-less : tie.Need-loop-less Inv-loop μ-loop
-loop-less c = omega arith
-
 loop-again : tie.Need-loop-again Inv-loop μ-loop
 loop-again c =
     let l = c .before .before .before in
@@ -65,5 +56,5 @@ returns-2 c =
 pub slots-keep-spec : {M : Type 1} → statement M
 slots-keep-spec =
     tie.close
-    (tie.spec Inv-loop μ-loop loop-holds longest-wait-requires add-if1 returns add-at add-k loop-less loop-again
-    returns-2)
+    (tie.spec Inv-loop μ-loop loop-holds (λ c κs. search needs) add-if1 returns add-at (λ c. omega arith)
+    (λ c. omega arith) loop-again returns-2)

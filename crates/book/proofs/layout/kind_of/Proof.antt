@@ -8,11 +8,8 @@ use Rattle.book.proofs.BlockLaws.{later}
 use Rattle.book.proofs.layout.kind_of.Statement.{statement}
 use Rattle.book.proofs.layout.kind_of.Tie as tie
 
-returns : tie.Need-returns
-returns c = search needs
-
 returns-2 : tie.Need-returns-2
 returns-2 c = later (λ (k : ℕ). 2 ≡ kindOf k) (λ k. refl) _ (c .if1 .left)
 
 pub kind-of-spec : {M : Type 1} → statement M
-kind-of-spec = tie.close (tie.spec returns returns-2)
+kind-of-spec = tie.close (tie.spec (λ c. search needs) returns-2)

@@ -22,35 +22,11 @@ abbrev μ-loop : tie.MeasureT-loop
 loop-holds : tie.Need-loop-holds Inv-loop μ-loop
 loop-holds c = (omega arith, over-none _ _)
 
-add-in-block : tie.Need-add-in-block Inv-loop μ-loop
-add-in-block c = search needs
-
-add-in-block-2 : tie.Need-add-in-block-2 Inv-loop μ-loop
-add-in-block-2 c = search needs
-
-in-block-requires : tie.Need-in-block-requires Inv-loop μ-loop
-in-block-requires c κs = search needs
-
-mul-list : tie.Need-mul-list Inv-loop μ-loop
-mul-list c = search needs
-
-slice-write-list : tie.Need-slice-write-list Inv-loop μ-loop
-slice-write-list c = search needs
-
-add-i : tie.Need-add-i Inv-loop μ-loop
-add-i c = search needs
-
-loop-less : tie.Need-loop-less Inv-loop μ-loop
-loop-less c = search needs
-
 loop-again : tie.Need-loop-again Inv-loop μ-loop
 unfolding listWord
 loop-again c =
     let head = c .before .before .loop in
     (omega arith, over-one _ _ (head .list) (head .i) _ (head .inv .1) (omega arith) (c .in-block .ensures))
-
-same-length : tie.Need-same-length Inv-loop μ-loop
-same-length c = search needs
 
 returns : tie.Need-returns Inv-loop μ-loop
 returns c =
@@ -62,17 +38,6 @@ returns c =
 pub copy-list-spec : {M : Type 1} → statement M
 copy-list-spec =
     tie.close
-    (tie.spec
-    Inv-loop
-    μ-loop
-    loop-holds
-    add-in-block
-    add-in-block-2
-    in-block-requires
-    mul-list
-    slice-write-list
-    add-i
-    loop-less
-    loop-again
-    same-length
-    returns)
+    (tie.spec Inv-loop μ-loop loop-holds (λ c. search needs) (λ c. search needs) (λ c κs. search needs)
+    (λ c. search needs) (λ c. search needs) (λ c. search needs) (λ c. search needs) loop-again
+    (λ c. search needs) returns)

@@ -10,17 +10,11 @@ use Rattle.book.proofs.BlockLaws.{later}
 use Rattle.book.proofs.reader.count.Statement.{statement}
 use Rattle.book.proofs.reader.count.Tie as tie
 
-block-count-requires : tie.Need-block-count-requires
-block-count-requires c κs = search needs
-
 returns : tie.Need-returns
 returns c =
     let b = c .before .before .before .args .book .now in
     let r = c .block-count .result in
     subst (λ (k : ℕ). Says (CountRight b k) r) (sym (c .before .if1 .taken)) (c .block-count .ensures)
-
-share-requires : tie.Need-share-requires
-share-requires c κs = search needs
 
 returns-2 : tie.Need-returns-2
 returns-2 c =
@@ -30,4 +24,4 @@ returns-2 c =
     _ (c .before .if1 .left) (c .share .ensures)
 
 pub count-spec : {M : Type 1} → statement M
-count-spec = tie.close (tie.spec block-count-requires returns share-requires returns-2)
+count-spec = tie.close (tie.spec (λ c κs. search needs) returns (λ c κs. search needs) returns-2)

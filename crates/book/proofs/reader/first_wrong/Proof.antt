@@ -16,32 +16,14 @@ Inv-loop book t blocks i₀ i = Reached (blocksIn book) (λ j. Passes book t (j 
 abbrev μ-loop : tie.MeasureT-loop
 μ-loop book t blocks i₀ i = blocks + 1 - i
 
-cast-blocks : tie.Need-cast-blocks Inv-loop μ-loop
-cast-blocks c = search needs
-
 loop-holds : tie.Need-loop-holds Inv-loop μ-loop
 loop-holds c = reached-first _ _
-
-sub-passes : tie.Need-sub-passes Inv-loop μ-loop
-sub-passes c = search needs
-
-cast-passes : tie.Need-cast-passes Inv-loop μ-loop
-cast-passes c = search needs
-
-passes-requires : tie.Need-passes-requires Inv-loop μ-loop
-passes-requires c κs = search needs
 
 returns : tie.Need-returns Inv-loop μ-loop
 returns c =
     let head = c .before .before .before .loop in
     let test = c .before .passes in
     stops _ _ (head .i) (head .inv) (omega arith) (refused (test .result) (test .ensures) (c .if1 .taken))
-
-add-i : tie.Need-add-i Inv-loop μ-loop
-add-i c = search needs
-
-loop-less : tie.Need-loop-less Inv-loop μ-loop
-loop-less c = search needs
 
 loop-again : tie.Need-loop-again Inv-loop μ-loop
 loop-again c =
@@ -55,16 +37,5 @@ returns-2 c = none-without _ _ (c .before .loop .i) (c .before .loop .inv) (omeg
 pub first-wrong-spec : {M : Type 1} → statement M
 first-wrong-spec =
     tie.close
-    (tie.spec
-    Inv-loop
-    μ-loop
-    cast-blocks
-    loop-holds
-    sub-passes
-    cast-passes
-    passes-requires
-    returns
-    add-i
-    loop-less
-    loop-again
-    returns-2)
+    (tie.spec Inv-loop μ-loop (λ c. search needs) loop-holds (λ c. search needs) (λ c. search needs)
+    (λ c κs. search needs) returns (λ c. search needs) (λ c. search needs) loop-again returns-2)

@@ -21,12 +21,6 @@ judged c =
     let judge = c .before .before .judge in
     judged-sound (begin c .args .book .now) (judge .result) (judge .ensures) (omega (arith, c .before .number .ensures))
 
-judge-requires : tie.Need-judge-requires
-judge-requires c κs = search needs
-
-number-requires : tie.Need-number-requires
-number-requires c κs = search needs
-
 returns : tie.Need-returns
 returns c =
     let judge = c .before .before in
@@ -34,12 +28,6 @@ returns c =
     λ has.
     judged-unsound book (judge .judge .result) (judge .judge .ensures)
     (λ z. omega (arith, c .before .number .ensures)) (has .0)
-
-returns-2 : tie.Need-returns-2
-returns-2 c = search needs
-
-place-requires : tie.Need-place-requires
-place-requires c κs = search needs
 
 returns-3 : tie.Need-returns-3
 returns-3 c = λ has. omega (arith, has .1, c .before .place .ensures, judged (c .before .before .before) .1)
@@ -52,4 +40,5 @@ returns-4 c =
 pub has-signal-spec : {M : Type 1} → statement M
 has-signal-spec =
     tie.close
-    (tie.spec judge-requires number-requires returns returns-2 place-requires returns-3 returns-4)
+    (tie.spec (λ c κs. search needs) (λ c κs. search needs) returns (λ c. search needs) (λ c κs. search needs)
+    returns-3 returns-4)

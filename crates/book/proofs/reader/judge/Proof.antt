@@ -30,9 +30,6 @@ counts : (c : tie.Else4)
     → Each CountRight (c .before .before .before .before .before .before .before .before .before .args .book .now)
 counts c = none-each _ _ _ (c .before .first-wrong3 .ensures) (c .if4 .left)
 
-length-right-requires : tie.Need-length-right-requires
-length-right-requires c κs = search needs
-
 returns : tie.Need-returns
 returns c =
     let test = c .before .length-right in
@@ -41,9 +38,6 @@ returns c =
 first-wrong-requires : tie.Need-first-wrong-requires
 first-wrong-requires c κs = whole c
 
-sub-t8 : tie.Need-sub-t8
-sub-t8 c = search needs
-
 returns-2 : tie.Need-returns-2
 returns-2 c =
     let wrong = found _ _ _ (c .before .first-wrong .ensures) (c .if2 .taken) in
@@ -51,9 +45,6 @@ returns-2 c =
 
 first-wrong-requires-2 : tie.Need-first-wrong-requires-2
 first-wrong-requires-2 c κs = whole (c .before .before)
-
-sub-t9 : tie.Need-sub-t9
-sub-t9 c = search needs
 
 returns-3 : tie.Need-returns-3
 returns-3 c =
@@ -73,9 +64,6 @@ returns-4 c =
 
 first-wrong-requires-4 : tie.Need-first-wrong-requires-4
 first-wrong-requires-4 c κs = whole (c .before .before .before .before .before .before)
-
-sub-t11 : tie.Need-sub-t11
-sub-t11 c = search needs
 
 returns-5 : tie.Need-returns-5
 returns-5 c =
@@ -104,19 +92,6 @@ returns-6 c =
 pub judge-spec : {M : Type 1} → statement M
 judge-spec =
     tie.close
-    (tie.spec
-    length-right-requires
-    returns
-    first-wrong-requires
-    sub-t8
-    returns-2
-    first-wrong-requires-2
-    sub-t9
-    returns-3
-    first-wrong-requires-3
-    returns-4
-    first-wrong-requires-4
-    sub-t11
-    returns-5
-    in-block-requires
-    returns-6)
+    (tie.spec (λ c κs. search needs) returns first-wrong-requires (λ c. search needs) returns-2
+    first-wrong-requires-2 (λ c. search needs) returns-3 first-wrong-requires-3 returns-4 first-wrong-requires-4
+    (λ c. search needs) returns-5 in-block-requires returns-6)

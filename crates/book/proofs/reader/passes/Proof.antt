@@ -15,30 +15,6 @@ use Rattle.book.proofs.reader.passes.Tie as tie
 named : (b : List ℕ) (k : ℕ) (flag : Bool) {t u : Test} → t ≡ u → Says (Passes b u k) flag → Says (Passes b t k) flag
 named b k flag e s = subst (λ (t : Test). Says (Passes b t k) flag) (sym e) s
 
-enum-told : tie.Need-enum-told
-enum-told c = search needs
-
-check-requires : tie.Need-check-requires
-check-requires c κs = search needs
-
-enum-told-2 : tie.Need-enum-told-2
-enum-told-2 c = search needs
-
-number-and-kind-requires : tie.Need-number-and-kind-requires
-number-and-kind-requires c κs = search needs
-
-enum-told-3 : tie.Need-enum-told-3
-enum-told-3 c = search needs
-
-count-requires : tie.Need-count-requires
-count-requires c κs = search needs
-
-enum-told-4 : tie.Need-enum-told-4
-enum-told-4 c = search needs
-
-zeros-requires : tie.Need-zeros-requires
-zeros-requires c κs = search needs
-
 returns : tie.Need-returns
 returns c = named _ _ (c .check .result) (c .before .enum-told .given .1) (c .check .ensures)
 
@@ -54,16 +30,6 @@ returns-4 c = named _ _ (c .zeros .result) (c .before .enum-told4 .given .1) (c 
 pub passes-spec : {M : Type 1} → statement M
 passes-spec =
     tie.close
-    (tie.spec
-    enum-told
-    check-requires
-    enum-told-2
-    number-and-kind-requires
-    enum-told-3
-    count-requires
-    enum-told-4
-    zeros-requires
-    returns
-    returns-2
-    returns-3
-    returns-4)
+    (tie.spec (λ c. search needs) (λ c κs. search needs) (λ c. search needs) (λ c κs. search needs)
+    (λ c. search needs) (λ c κs. search needs) (λ c. search needs) (λ c κs. search needs) returns returns-2
+    returns-3 returns-4)

@@ -13,15 +13,6 @@ use Rattle.book.proofs.reader.used_in.Tie as tie
 returns : tie.Need-returns
 returns c = search needs
 
-signals-in-requires : tie.Need-signals-in-requires
-signals-in-requires c κs = search needs
-
-mul-result : tie.Need-mul-result
-mul-result c = search needs
-
-add-result : tie.Need-add-result
-add-result c = search needs
-
 returns-2 : tie.Need-returns-2
 returns-2 c =
     let m = c .before .before .args .m in
@@ -29,4 +20,6 @@ returns-2 c =
     ∙ later (λ (k : ℕ). 3 + signalSize * signalsIn m k ≡ usedIn m k) (λ k. refl) _ (c .before .if1 .left)
 
 pub used-in-spec : {M : Type 1} → statement M
-used-in-spec = tie.close (tie.spec returns signals-in-requires mul-result add-result returns-2)
+used-in-spec =
+    tie.close
+    (tie.spec returns (λ c κs. search needs) (λ c. search needs) (λ c. search needs) returns-2)

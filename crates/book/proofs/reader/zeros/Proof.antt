@@ -18,15 +18,6 @@ Inv-loop book k w₀ w =
 abbrev μ-loop : tie.MeasureT-loop
 μ-loop book k w₀ w = 127 - w
 
-in-block-requires : tie.Need-in-block-requires Inv-loop μ-loop
-in-block-requires c κs = search needs
-
-cast-used-in : tie.Need-cast-used-in Inv-loop μ-loop
-cast-used-in c = search needs
-
-used-in-requires : tie.Need-used-in-requires Inv-loop μ-loop
-used-in-requires c κs = search needs
-
 loop-holds : tie.Need-loop-holds Inv-loop μ-loop
 loop-holds c =
     let start = c .before .before .before .args in
@@ -35,19 +26,10 @@ loop-holds c =
     in
     (le-of-eq used, λ i h u. absurd (omega arith))
 
-in-block-requires-2 : tie.Need-in-block-requires-2 Inv-loop μ-loop
-in-block-requires-2 c κs = search needs
-
 returns : tie.Need-returns Inv-loop μ-loop
 returns c =
     let head = c .before .before .before .loop in
     λ zero. c .if1 .taken (c .before .in-block2 .ensures ∙ zero (head .w) (head .inv .0) (omega arith))
-
-add-w : tie.Need-add-w Inv-loop μ-loop
-add-w c = search needs
-
-loop-less : tie.Need-loop-less Inv-loop μ-loop
-loop-less c = search needs
 
 loop-again : tie.Need-loop-again Inv-loop μ-loop
 loop-again c =
@@ -60,16 +42,5 @@ returns-2 c = λ w u h. c .before .loop .inv .1 w (omega arith) u
 pub zeros-spec : {M : Type 1} → statement M
 zeros-spec =
     tie.close
-    (tie.spec
-    Inv-loop
-    μ-loop
-    in-block-requires
-    cast-used-in
-    used-in-requires
-    loop-holds
-    in-block-requires-2
-    returns
-    add-w
-    loop-less
-    loop-again
-    returns-2)
+    (tie.spec Inv-loop μ-loop (λ c κs. search needs) (λ c. search needs) (λ c κs. search needs) loop-holds
+    (λ c κs. search needs) returns (λ c. search needs) (λ c. search needs) loop-again returns-2)

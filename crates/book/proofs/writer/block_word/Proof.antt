@@ -18,12 +18,9 @@ returns c =
     simp (eq-eqb _ _ (c .if1 .taken))
     (c .before .before .pre .2 ∙ ap (λ (w : ℕ). (sum body w + 1) % 2 ^ 32) (c .if1 .taken))
 
-body-word-requires : tie.Need-body-word-requires
-body-word-requires c κs = search needs
-
 returns-2 : tie.Need-returns-2
 unfolding blockWord
 returns-2 c = simp (ne-eqb _ _ (c .before .if1 .left)) (c .body-word .ensures)
 
 pub block-word-spec : {M : Type 1} → statement M
-block-word-spec = tie.close (tie.spec returns body-word-requires returns-2)
+block-word-spec = tie.close (tie.spec returns (λ c κs. search needs) returns-2)

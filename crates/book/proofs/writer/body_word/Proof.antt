@@ -10,27 +10,6 @@ use Rattle.book.proofs.BlockLaws.{later, body-content}
 use Rattle.book.proofs.writer.body_word.Statement.{statement}
 use Rattle.book.proofs.writer.body_word.Tie as tie
 
-cast-result : tie.Need-cast-result
-cast-result c = search needs
-
-returns : tie.Need-returns
-returns c = search needs
-
-kind-of-requires : tie.Need-kind-of-requires
-kind-of-requires c κs = search needs
-
-returns-2 : tie.Need-returns-2
-returns-2 c = search needs
-
-count-requires : tie.Need-count-requires
-count-requires c κs = search needs
-
-cast-settings-word : tie.Need-cast-settings-word
-cast-settings-word c = search needs
-
-settings-word-requires : tie.Need-settings-word-requires
-settings-word-requires c κs = search needs
-
 returns-3 : tie.Need-returns-3
 returns-3 c =
     let args = c .before .before .before .before .before .before .args in
@@ -40,9 +19,6 @@ returns-3 c =
     ∙ ap (λ (m : ℕ). getD (settingsWords (args .s) m) d 0) (c .before .count .ensures)
     ∙ ap (λ (k : ℕ). getD (contentOf (args .s) l k) d 0) (sym (c .before .before .if3 .taken))
     ∙ body-content (args .s) l (args .k) (args .w) (omega arith)
-
-signal-word-requires : tie.Need-signal-word-requires
-signal-word-requires c κs = search needs
 
 returns-4 : tie.Need-returns-4
 returns-4 c =
@@ -57,14 +33,5 @@ returns-4 c =
 pub body-word-spec : {M : Type 1} → statement M
 body-word-spec =
     tie.close
-    (tie.spec
-    cast-result
-    returns
-    kind-of-requires
-    returns-2
-    count-requires
-    cast-settings-word
-    settings-word-requires
-    returns-3
-    signal-word-requires
-    returns-4)
+    (tie.spec (λ c. search needs) (λ c. search needs) (λ c κs. search needs) (λ c. search needs)
+    (λ c κs. search needs) (λ c. search needs) (λ c κs. search needs) returns-3 (λ c κs. search needs) returns-4)

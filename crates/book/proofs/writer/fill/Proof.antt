@@ -23,28 +23,10 @@ Inv-loop s list room₀ blocks words check₀ p₀ room check p =
 abbrev μ-loop : tie.MeasureT-loop
 μ-loop s list room₀ blocks words check₀ p₀ room check p = words - p
 
-mul-words : tie.Need-mul-words Inv-loop μ-loop
-mul-words c = search needs
-
 loop-holds : tie.Need-loop-holds Inv-loop μ-loop
 loop-holds c =
     let start = c .before .before .args in
     (omega arith, over-none _ _, omega (arith, sum-none (bodyWord (start .s) (start .list .now) 0)))
-
-block-word-requires : tie.Need-block-word-requires Inv-loop μ-loop
-block-word-requires c κs = search needs
-
-put-word-requires : tie.Need-put-word-requires Inv-loop μ-loop
-put-word-requires c κs = search needs
-
-check-past-requires : tie.Need-check-past-requires Inv-loop μ-loop
-check-past-requires c κs = search needs
-
-add-p : tie.Need-add-p Inv-loop μ-loop
-add-p c = search needs
-
-loop-less : tie.Need-loop-less Inv-loop μ-loop
-loop-less c = search needs
 
 loop-again : tie.Need-loop-again Inv-loop μ-loop
 unfolding bookWord
@@ -71,16 +53,5 @@ returns c = let head = c .before .loop in put-all _ _ _ (head .p) _ (head .inv .
 pub fill-spec : {M : Type 1} → statement M
 fill-spec =
     tie.close
-    (tie.spec
-    Inv-loop
-    μ-loop
-    mul-words
-    loop-holds
-    block-word-requires
-    put-word-requires
-    check-past-requires
-    add-p
-    loop-less
-    loop-again
-    same-length
-    returns)
+    (tie.spec Inv-loop μ-loop (λ c. search needs) loop-holds (λ c κs. search needs) (λ c κs. search needs)
+    (λ c κs. search needs) (λ c. search needs) (λ c. search needs) loop-again same-length returns)

@@ -10,12 +10,6 @@ use Rattle.book.proofs.BlockLaws.{setting-listed}
 use Rattle.book.proofs.writer.settings_word.Statement.{statement}
 use Rattle.book.proofs.writer.settings_word.Tie as tie
 
-cast-setting-word : tie.Need-cast-setting-word
-cast-setting-word c = search needs
-
-setting-word-requires : tie.Need-setting-word-requires
-setting-word-requires c κs = search needs
-
 returns : tie.Need-returns
 returns c = c .setting-word .ensures ∙ setting-listed _ _ _ (omega arith) (omega arith)
 
@@ -30,4 +24,4 @@ returns-3 c =
     sym (List·getD-eq-default (settingsWords (args .s) (args .m)) 0 {n = args .w - 2} (omega arith))
 
 pub settings-word-spec : {M : Type 1} → statement M
-settings-word-spec = tie.close (tie.spec cast-setting-word setting-word-requires returns returns-2 returns-3)
+settings-word-spec = tie.close (tie.spec (λ c. search needs) (λ c κs. search needs) returns returns-2 returns-3)

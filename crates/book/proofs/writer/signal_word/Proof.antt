@@ -18,24 +18,12 @@ listed l k w low high =
     let place : suc (w - 3) ≡ w - 2 = omega arith in
     sym (signal-listed l k (w - 3) high) ∙ ap (λ (n : ℕ). getD (signalWords l k) n 0) place
 
-count-requires : tie.Need-count-requires
-count-requires c κs = search needs
-
-signals-in-requires : tie.Need-signals-in-requires
-signals-in-requires c κs = search needs
-
-cast-result : tie.Need-cast-result
-cast-result c = search needs
-
 returns : tie.Need-returns
 unfolding signalWords
 returns c =
     let args = c .before .before .before .before .args in
     rw (c .before .before .if1 .taken)
     (c .signals-in .ensures ∙ ap (λ (m : ℕ). signalsIn m (args .k)) (c .before .count .ensures))
-
-sub-d : tie.Need-sub-d
-sub-d c = search needs
 
 returns-2 : tie.Need-returns-2
 unfolding signalWords
@@ -45,26 +33,11 @@ returns-2 c =
     (List·getD-eq-default (signalWords (args .list .now) (args .k)) 0 {n = args .w - 2}
     (omega (arith, length-take sectionSize (drop (sectionSize * (args .k - 1)) (args .list .now)))))
 
-sub-i : tie.Need-sub-i
-sub-i c = search needs
-
-mul-i : tie.Need-mul-i
-mul-i c = search needs
-
-add-i : tie.Need-add-i
-add-i c = search needs
-
 returns-3 : tie.Need-returns-3
 returns-3 c =
     let args = c .before .before .before .before .args in
     sym (List·getD-eq-default (args .list .now) 0 {n = sectionSize * (args .k - 1) + (args .w - 3)} (omega arith))
     ∙ listed (args .list .now) (args .k) (args .w) (omega arith) (omega arith)
-
-mul-result : tie.Need-mul-result
-mul-result c = search needs
-
-shared-slice-read-result : tie.Need-shared-slice-read-result
-shared-slice-read-result c = search needs
 
 returns-4 : tie.Need-returns-4
 returns-4 c = listed _ _ _ (omega arith) (omega arith)
@@ -72,17 +45,6 @@ returns-4 c = listed _ _ _ (omega arith) (omega arith)
 pub signal-word-spec : {M : Type 1} → statement M
 signal-word-spec =
     tie.close
-    (tie.spec
-    count-requires
-    signals-in-requires
-    cast-result
-    returns
-    sub-d
-    returns-2
-    sub-i
-    mul-i
-    add-i
-    returns-3
-    mul-result
-    shared-slice-read-result
-    returns-4)
+    (tie.spec (λ c κs. search needs) (λ c κs. search needs) (λ c. search needs) returns (λ c. search needs)
+    returns-2 (λ c. search needs) (λ c. search needs) (λ c. search needs) returns-3 (λ c. search needs)
+    (λ c. search needs) returns-4)

@@ -5,11 +5,8 @@ use Rattle.terms.specs.declared.Signal.{Signal}
 use Rattle.filling.proofs.groups.group_of.Statement.{statement}
 use Rattle.filling.proofs.groups.group_of.Tie as tie
 
-signal-at-requires : tie.Need-signal-at-requires
-signal-at-requires c κs = search needs
-
 returns : tie.Need-returns
 returns c = ap (λ (x : Signal). x .unit) (c .signal-at .ensures)
 
 pub group-of-spec : {M : Type 1} → statement M
-group-of-spec = tie.close (tie.spec signal-at-requires returns)
+group-of-spec = tie.close (tie.spec (λ c κs. search needs) returns)

@@ -25,15 +25,9 @@ Inv-loop list repetitions m i₀ i =
 abbrev μ-loop : tie.MeasureT-loop
 μ-loop list repetitions m i₀ i = m + 1 - i
 
-count-in-range-requires : tie.Need-count-in-range-requires Inv-loop μ-loop
-count-in-range-requires c κs = search needs
-
 returns : tie.Need-returns Inv-loop μ-loop
 returns c =
     let k = c .before .count-in-range in λ g. refused (k .result) (k .ensures) (c .if1 .taken) (g .right)
-
-count-requires : tie.Need-count-requires Inv-loop μ-loop
-count-requires c κs = search needs
 
 returns-2 : tie.Need-returns-2 Inv-loop μ-loop
 returns-2 c = λ g. omega (arith, g .given)
@@ -44,43 +38,16 @@ loop-holds c =
     let right = granted (k .result) (k .ensures) (c .before .before .if1 .left) in
     (reached-first _ _, c .before .count .ensures, right, omega arith)
 
-cast-group-of : tie.Need-cast-group-of Inv-loop μ-loop
-cast-group-of c = omega arith
-
-group-of-requires : tie.Need-group-of-requires Inv-loop μ-loop
-group-of-requires c κs = search needs
-
-cast-if3 : tie.Need-cast-if3 Inv-loop μ-loop
-cast-if3 c = omega arith
-
 returns-3 : tie.Need-returns-3 Inv-loop μ-loop
 returns-3 c =
     let l = c .before .before .before in
     λ g. omega (arith, g .group (l .loop .i) (omega arith), c .before .group-of .ensures)
-
-sub-is-repetition : tie.Need-sub-is-repetition Inv-loop μ-loop
-sub-is-repetition c = omega arith
-
-mul-is-repetition : tie.Need-mul-is-repetition Inv-loop μ-loop
-mul-is-repetition c = omega arith
-
-shared-slice-read-is-repetition : tie.Need-shared-slice-read-is-repetition Inv-loop μ-loop
-shared-slice-read-is-repetition c = omega arith
-
-is-repetition-requires : tie.Need-is-repetition-requires Inv-loop μ-loop
-is-repetition-requires c κs = search needs
 
 returns-4 : tie.Need-returns-4 Inv-loop μ-loop
 returns-4 c =
     let is = c .before .is-repetition in
     let l = c .before .before .before .before .before .before in
     λ g. refused (is .result) (is .ensures) (c .if4 .taken) (g .seven (l .loop .i) (omega arith))
-
-add-i : tie.Need-add-i Inv-loop μ-loop
-add-i c = omega arith
-
-loop-less : tie.Need-loop-less Inv-loop μ-loop
-loop-less c = omega arith
 
 loop-again : tie.Need-loop-again Inv-loop μ-loop
 loop-again c =
@@ -107,24 +74,7 @@ returns-5 c =
 pub grouped-spec : {M : Type 1} → statement M
 grouped-spec =
     tie.close
-    (tie.spec
-    Inv-loop
-    μ-loop
-    count-in-range-requires
-    returns
-    count-requires
-    returns-2
-    loop-holds
-    cast-group-of
-    group-of-requires
-    cast-if3
-    returns-3
-    sub-is-repetition
-    mul-is-repetition
-    shared-slice-read-is-repetition
-    is-repetition-requires
-    returns-4
-    add-i
-    loop-less
-    loop-again
+    (tie.spec Inv-loop μ-loop (λ c κs. search needs) returns (λ c κs. search needs) returns-2 loop-holds
+    (λ c. omega arith) (λ c κs. search needs) (λ c. omega arith) returns-3 (λ c. omega arith) (λ c. omega arith)
+    (λ c. omega arith) (λ c κs. search needs) returns-4 (λ c. omega arith) (λ c. omega arith) loop-again
     returns-5)

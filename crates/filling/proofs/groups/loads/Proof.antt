@@ -28,50 +28,14 @@ near k =
     let i = k .before .before .loop .i in
     omega (arith, k .group-of .ensures, Entry k .pre .group (1 + i) (omega arith))
 
-count-requires : tie.Need-count-requires Inv-loop μ-loop
-count-requires c κs = search needs
-
 loop-holds : tie.Need-loop-holds Inv-loop μ-loop
 loop-holds c = (tallying-none _ _ _, c .count .ensures)
-
-cast-group-of : tie.Need-cast-group-of Inv-loop μ-loop
-cast-group-of c = omega arith
-
-add-group-of : tie.Need-add-group-of Inv-loop μ-loop
-add-group-of c = omega arith
-
-group-of-requires : tie.Need-group-of-requires Inv-loop μ-loop
-group-of-requires c κs = search needs
-
-cast-g : tie.Need-cast-g Inv-loop μ-loop
-cast-g c = omega arith
-
-mul-t13 : tie.Need-mul-t13 Inv-loop μ-loop
-mul-t13 c = omega arith
 
 array-read-t10 : tie.Need-array-read-t10 Inv-loop μ-loop
 array-read-t10 c = near c
 
-mul-add : tie.Need-mul-add Inv-loop μ-loop
-mul-add c = omega arith
-
-shared-slice-read-add : tie.Need-shared-slice-read-add Inv-loop μ-loop
-shared-slice-read-add c = omega arith
-
-add-requires : tie.Need-add-requires Inv-loop μ-loop
-add-requires c κs = search needs
-
-mul-loads : tie.Need-mul-loads Inv-loop μ-loop
-mul-loads c = omega arith
-
 array-write-loads : tie.Need-array-write-loads Inv-loop μ-loop
 array-write-loads c = near (c .before .before)
-
-add-i : tie.Need-add-i Inv-loop μ-loop
-add-i c = omega arith
-
-loop-less : tie.Need-loop-less Inv-loop μ-loop
-loop-less c = omega arith
 
 loop-again : tie.Need-loop-again Inv-loop μ-loop
 loop-again c =
@@ -94,23 +58,7 @@ returns c = let l = c .before in tallying-all _ _ _ (l .loop .loads) (l .loop .i
 pub loads-spec : {M : Type 1} → statement M
 loads-spec =
     tie.close
-    (tie.spec
-    Inv-loop
-    μ-loop
-    count-requires
-    loop-holds
-    cast-group-of
-    add-group-of
-    group-of-requires
-    cast-g
-    mul-t13
-    array-read-t10
-    mul-add
-    shared-slice-read-add
-    add-requires
-    mul-loads
-    array-write-loads
-    add-i
-    loop-less
-    loop-again
-    returns)
+    (tie.spec Inv-loop μ-loop (λ c κs. search needs) loop-holds (λ c. omega arith) (λ c. omega arith)
+    (λ c κs. search needs) (λ c. omega arith) (λ c. omega arith) array-read-t10 (λ c. omega arith)
+    (λ c. omega arith) (λ c κs. search needs) (λ c. omega arith) array-write-loads (λ c. omega arith)
+    (λ c. omega arith) loop-again returns)

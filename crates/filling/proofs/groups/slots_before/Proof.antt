@@ -34,35 +34,11 @@ goes-on k =
     beginning-next _ _ _ (l .loop .begun) (l .loop .needed) g (l .loop .inv) _ (omega arith)
     (k .slots .ensures ∙ ap slotsFor (l .before .loads .ensures g (omega arith)))
 
-loads-requires : tie.Need-loads-requires Inv-loop μ-loop
-loads-requires c κs = search needs
-
 loop-holds : tie.Need-loop-holds Inv-loop μ-loop
 loop-holds c = beginning-none _ _ _ _ (omega arith)
 
-mul-begun : tie.Need-mul-begun Inv-loop μ-loop
-mul-begun c = omega arith
-
-array-write-begun : tie.Need-array-write-begun Inv-loop μ-loop
-array-write-begun c = omega arith
-
-mul-needed : tie.Need-mul-needed Inv-loop μ-loop
-mul-needed c = omega arith
-
-array-read-needed : tie.Need-array-read-needed Inv-loop μ-loop
-array-read-needed c = omega arith
-
-slots-requires : tie.Need-slots-requires Inv-loop μ-loop
-slots-requires c κs = search needs
-
 add-needed : tie.Need-add-needed Inv-loop μ-loop
 add-needed c = omega (arith, beginning-small _ _ _ _ _ _ (goes-on c), Entry c .pre .right .few)
-
-add-g : tie.Need-add-g Inv-loop μ-loop
-add-g c = omega arith
-
-loop-less : tie.Need-loop-less Inv-loop μ-loop
-loop-less c = omega arith
 
 loop-again : tie.Need-loop-again Inv-loop μ-loop
 loop-again c = goes-on c
@@ -76,18 +52,6 @@ returns c =
 pub slots-before-spec : {M : Type 1} → statement M
 slots-before-spec =
     tie.close
-    (tie.spec
-    Inv-loop
-    μ-loop
-    loads-requires
-    loop-holds
-    mul-begun
-    array-write-begun
-    mul-needed
-    array-read-needed
-    slots-requires
-    add-needed
-    add-g
-    loop-less
-    loop-again
-    returns)
+    (tie.spec Inv-loop μ-loop (λ c κs. search needs) loop-holds (λ c. omega arith) (λ c. omega arith)
+    (λ c. omega arith) (λ c. omega arith) (λ c κs. search needs) add-needed (λ c. omega arith)
+    (λ c. omega arith) loop-again returns)

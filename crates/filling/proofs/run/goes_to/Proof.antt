@@ -7,17 +7,8 @@ use Rattle.filling.proofs.StepLaws.{goes-kept, goes-begun}
 use Rattle.filling.proofs.run.goes_to.Statement.{statement}
 use Rattle.filling.proofs.run.goes_to.Tie as tie
 
-first-free-requires : tie.Need-first-free-requires
-first-free-requires c κs = search needs
-
 returns : tie.Need-returns
 returns c u s h = let f = c .before .first-free in goes-kept (f .result) h (f .ensures) (omega arith)
-
-fresh-requires : tie.Need-fresh-requires
-fresh-requires c κs = search needs
-
-add-t3 : tie.Need-add-t3
-add-t3 c = search needs
 
 returns-2 : tie.Need-returns-2
 returns-2 c u s h =
@@ -25,4 +16,6 @@ returns-2 c u s h =
     goes-begun (f .result) h (f .ensures) _ (omega arith) (c .before .fresh .ensures) refl
 
 pub goes-to-spec : {M : Type 1} → statement M
-goes-to-spec = tie.close (tie.spec first-free-requires returns fresh-requires add-t3 returns-2)
+goes-to-spec =
+    tie.close
+    (tie.spec (λ c κs. search needs) returns (λ c κs. search needs) (λ c. search needs) returns-2)

@@ -9,12 +9,6 @@ use Rattle.filling.proofs.StepLaws.{not-below, not-free, frame-placed}
 use Rattle.filling.proofs.run.place.Statement.{statement}
 use Rattle.filling.proofs.run.place.Tie as tie
 
-goes-to-requires : tie.Need-goes-to-requires
-goes-to-requires c κs = search needs
-
-first-free-requires : tie.Need-first-free-requires
-first-free-requires c κs = search needs
-
 returns : tie.Need-returns
 returns c u s h =
     let f = c .before .before in
@@ -22,9 +16,6 @@ returns c u s h =
     let b = f .first-free in
     trouble
     (not-below s _ (to .before .pre .1) (to .goes-to .result) (to .goes-to .ensures u s h) (b .result) (b .ensures) (omega arith))
-
-all-free-requires : tie.Need-all-free-requires
-all-free-requires c κs = search needs
 
 returns-2 : tie.Need-returns-2
 returns-2 c u s h =
@@ -35,9 +26,6 @@ returns-2 c u s h =
     trouble
     (not-free s _ (to .before .pre .1) (to .goes-to .result) (to .goes-to .ensures u s h) (b .result) (b .ensures)
     (refused (all .result) (all .ensures) (c .if2 .taken)))
-
-with-frame-requires : tie.Need-with-frame-requires
-with-frame-requires c κs = search needs
 
 returns-3 : tie.Need-returns-3
 returns-3 c u s h =
@@ -51,11 +39,5 @@ returns-3 c u s h =
 pub place-spec : {M : Type 1} → statement M
 place-spec =
     tie.close
-    (tie.spec
-    goes-to-requires
-    first-free-requires
-    returns
-    all-free-requires
-    returns-2
-    with-frame-requires
-    returns-3)
+    (tie.spec (λ c κs. search needs) (λ c κs. search needs) returns (λ c κs. search needs) returns-2
+    (λ c κs. search needs) returns-3)

@@ -70,9 +70,6 @@ placed t =
     let k = t .before .before in
     subst (Stepped (k .before .group-of .result) (here (k .before) .state) (next (k .before))) (t .frame .given .1) (step k)
 
-count-requires : tie.Need-count-requires Inv-loop μ-loop
-count-requires c κs = search needs
-
 frames-in-order-requires : tie.Need-frames-in-order-requires Inv-loop μ-loop
 frames-in-order-requires c κs =
     let g = c .before .before .before .before .before .pre .fillable .grouped in
@@ -88,26 +85,8 @@ loop-holds c =
     let b = c .before .before .before .before .before .before in
     (filling-none _ _ _ _ _ (b .args .starts) (b .pre) (omega arith), c .before .count .ensures)
 
-mul-f : tie.Need-mul-f Inv-loop μ-loop
-mul-f c = omega arith
-
-array-copy-out-f : tie.Need-array-copy-out-f Inv-loop μ-loop
-array-copy-out-f c = omega arith
-
-group-of-requires : tie.Need-group-of-requires Inv-loop μ-loop
-group-of-requires c κs = search needs
-
-cast-g : tie.Need-cast-g Inv-loop μ-loop
-cast-g c = omega arith
-
-mul-t21 : tie.Need-mul-t21 Inv-loop μ-loop
-mul-t21 c = omega arith
-
 array-read-t27 : tie.Need-array-read-t27 Inv-loop μ-loop
 array-read-t27 c = own c
-
-mul-t29 : tie.Need-mul-t29 Inv-loop μ-loop
-mul-t29 c = omega arith
 
 array-read-t32 : tie.Need-array-read-t32 Inv-loop μ-loop
 array-read-t32 c = own c
@@ -116,12 +95,6 @@ place-requires : tie.Need-place-requires Inv-loop μ-loop
 place-requires c κs =
     let same = ap (λ (g : ℕ). getD (Loop c .loop .begun) g 0) (c .group-of .ensures) in
     (omega (arith, here c .few-begun), here c .seven)
-
-enum-known-frame : tie.Need-enum-known-frame Inv-loop μ-loop
-enum-known-frame c = search needs
-
-enum-told : tie.Need-enum-told Inv-loop μ-loop
-enum-told c = search needs
 
 same-length : tie.Need-same-length Inv-loop μ-loop
 same-length c = Loop (c .before .before .before) .loop .inv .0 .table .same-length
@@ -135,14 +108,8 @@ returns c =
     let g = here (k .before) in
     absurd (g .untroubled (subst (Stepped (k .before .group-of .result) (g .state) (next (k .before))) (c .enum-told .given .1) (step k)))
 
-mul-free : tie.Need-mul-free Inv-loop μ-loop
-mul-free c = omega arith
-
 array-write-free : tie.Need-array-write-free Inv-loop μ-loop
 array-write-free c = own (c .before .before .before .before .before)
-
-mul-begun : tie.Need-mul-begun Inv-loop μ-loop
-mul-begun c = omega arith
 
 array-write-begun : tie.Need-array-write-begun Inv-loop μ-loop
 array-write-begun c = own (c .before .before .before .before .before)
@@ -151,12 +118,6 @@ show-requires : tie.Need-show-requires Inv-loop μ-loop
 show-requires c κs =
     let t = c .before .before .before .before in
     here (t .before .before .before) .paintable _ _ (placed t)
-
-add-i : tie.Need-add-i Inv-loop μ-loop
-add-i c = omega arith
-
-loop-less : tie.Need-loop-less Inv-loop μ-loop
-loop-less c = omega arith
 
 loop-again : tie.Need-loop-again Inv-loop μ-loop
 loop-again c =
@@ -183,34 +144,8 @@ returns-2 c =
 pub run-spec : {M : Type 1} → statement M
 run-spec =
     tie.close
-    (tie.spec
-    Inv-loop
-    μ-loop
-    count-requires
-    frames-in-order-requires
-    loop-holds
-    mul-f
-    array-copy-out-f
-    group-of-requires
-    cast-g
-    mul-t21
-    array-read-t27
-    mul-t29
-    array-read-t32
-    place-requires
-    enum-known-frame
-    enum-told
-    same-length
-    same-length-2
-    returns
-    mul-free
-    array-write-free
-    mul-begun
-    array-write-begun
-    show-requires
-    add-i
-    loop-less
-    loop-again
-    same-length-3
-    same-length-4
-    returns-2)
+    (tie.spec Inv-loop μ-loop (λ c κs. search needs) frames-in-order-requires loop-holds (λ c. omega arith)
+    (λ c. omega arith) (λ c κs. search needs) (λ c. omega arith) (λ c. omega arith) array-read-t27
+    (λ c. omega arith) array-read-t32 place-requires (λ c. search needs) (λ c. search needs) same-length
+    same-length-2 returns (λ c. omega arith) array-write-free (λ c. omega arith) array-write-begun show-requires
+    (λ c. omega arith) (λ c. omega arith) loop-again same-length-3 same-length-4 returns-2)

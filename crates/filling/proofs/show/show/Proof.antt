@@ -8,24 +8,6 @@ use Rattle.age.specs.AgeGiven.{AgeGiven}
 use Rattle.filling.proofs.show.show.Statement.{statement}
 use Rattle.filling.proofs.show.show.Tie as tie
 
-signal-at-requires : tie.Need-signal-at-requires
-signal-at-requires c κs = search needs
-
-age-requires : tie.Need-age-requires
-age-requires c κs = search needs
-
-put-result-requires : tie.Need-put-result-requires
-put-result-requires c κs = search needs
-
-paint-requires : tie.Need-paint-requires
-paint-requires c κs = search needs
-
-same-length : tie.Need-same-length
-same-length c = search needs
-
-same-length-2 : tie.Need-same-length-2
-same-length-2 c = search needs
-
 returns : tie.Need-returns
 returns c =
     let put = c .before .before .before .before .before .before in
@@ -47,11 +29,5 @@ returns c =
 pub show-spec : {M : Type 1} → statement M
 show-spec =
     tie.close
-    (tie.spec
-    signal-at-requires
-    age-requires
-    put-result-requires
-    paint-requires
-    same-length
-    same-length-2
-    returns)
+    (tie.spec (λ c κs. search needs) (λ c κs. search needs) (λ c κs. search needs) (λ c κs. search needs)
+    (λ c. search needs) (λ c. search needs) returns)

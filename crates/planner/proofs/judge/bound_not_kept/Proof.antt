@@ -51,15 +51,6 @@ loop-holds c =
     let a = c .before .before .args in
     (reached-first _ (FoundIn (a .s) (a .list .now) (a .repetitions .now)), refl)
 
-signal-at-requires : tie.Need-signal-at-requires Inv-loop μ-loop
-signal-at-requires c κs = search needs
-
-repetition-requires : tie.Need-repetition-requires Inv-loop μ-loop
-repetition-requires c κs = search needs
-
-same-length : tie.Need-same-length Inv-loop μ-loop
-same-length c = omega arith
-
 returns : tie.Need-returns Inv-loop μ-loop
 returns c =
     let l = c .before .before .before .before in
@@ -67,23 +58,8 @@ returns c =
     found-not (b .args .s) (b .args .list .now) (l .loop .repetitions) (l .loop .i) (l .loop .inv .0) (omega (arith, b .pre .count .counted))
     (subst (Largest (Keeps (b .args .s) (signalAt (b .args .list .now) (l .loop .i)) (segment (b .args .s)))) (c .if1 .taken) (largest (c .before)))
 
-cast-repetitions : tie.Need-cast-repetitions Inv-loop μ-loop
-cast-repetitions c = omega arith
-
-sub-repetitions : tie.Need-sub-repetitions Inv-loop μ-loop
-sub-repetitions c = omega arith
-
-mul-repetitions : tie.Need-mul-repetitions Inv-loop μ-loop
-mul-repetitions c = omega arith
-
-slice-write-repetitions : tie.Need-slice-write-repetitions Inv-loop μ-loop
-slice-write-repetitions c = omega arith
-
 add-i : tie.Need-add-i Inv-loop μ-loop
 add-i c = let close = near (c .before .before .before) in omega arith
-
-loop-less : tie.Need-loop-less Inv-loop μ-loop
-loop-less c = omega arith
 
 loop-again : tie.Need-loop-again Inv-loop μ-loop
 loop-again c =
@@ -96,9 +72,6 @@ loop-again c =
       simp length-set (l .loop .inv .1),
     )
 
-same-length-2 : tie.Need-same-length-2 Inv-loop μ-loop
-same-length-2 c = omega arith
-
 returns-2 : tie.Need-returns-2 Inv-loop μ-loop
 returns-2 c =
     let l = c .before in
@@ -108,6 +81,6 @@ returns-2 c =
 pub bound-not-kept-spec : {M : Type 1} → statement M
 bound-not-kept-spec =
     tie.close
-    (tie.spec Inv-loop μ-loop loop-holds signal-at-requires repetition-requires same-length returns
-    cast-repetitions sub-repetitions mul-repetitions slice-write-repetitions add-i loop-less loop-again
-    same-length-2 returns-2)
+    (tie.spec Inv-loop μ-loop loop-holds (λ c κs. search needs) (λ c κs. search needs) (λ c. omega arith)
+    returns (λ c. omega arith) (λ c. omega arith) (λ c. omega arith) (λ c. omega arith) add-i (λ c. omega arith)
+    loop-again (λ c. omega arith) returns-2)

@@ -28,12 +28,6 @@ InRange l j = SignalInRange (Begin l .args .s) (signalAt (Begin l .args .list .n
 loop-holds : tie.Need-loop-holds Inv-loop μ-loop
 loop-holds c = reached-first _ _
 
-signal-at-requires : tie.Need-signal-at-requires Inv-loop μ-loop
-signal-at-requires c κs = search needs
-
-signal-in-range-requires : tie.Need-signal-in-range-requires Inv-loop μ-loop
-signal-in-range-requires c κs = search needs
-
 returns : tie.Need-returns Inv-loop μ-loop
 returns c =
     let l = c .before .before .before .before in
@@ -45,9 +39,6 @@ add-i : tie.Need-add-i Inv-loop μ-loop
 add-i c =
     let l = c .before .before .before .before in
     omega (arith, Begin l .pre .right .few, Begin l .pre .counted)
-
-loop-less : tie.Need-loop-less Inv-loop μ-loop
-loop-less c = omega arith
 
 loop-again : tie.Need-loop-again Inv-loop μ-loop
 loop-again c =
@@ -64,5 +55,5 @@ returns-2 c =
 pub field-out-of-range-spec : {M : Type 1} → statement M
 field-out-of-range-spec =
     tie.close
-    (tie.spec Inv-loop μ-loop loop-holds signal-at-requires signal-in-range-requires returns add-i loop-less
-    loop-again returns-2)
+    (tie.spec Inv-loop μ-loop loop-holds (λ c κs. search needs) (λ c κs. search needs) returns add-i
+    (λ c. omega arith) loop-again returns-2)

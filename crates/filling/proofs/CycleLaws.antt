@@ -1,7 +1,7 @@
 -- The laws of a slot's cycles: a frame takes 64/R of them, its cycles repeat, and the first free cycle is the first.
 -- Assumes nothing.
 use mathlib.Core.Path.{_≡_, refl, sym, ap, _∙_}
-use mathlib.Core.Bool.{Bool, true, false}
+use mathlib.Core.Bool.{Bool, true, false, cond}
 use mathlib.Core.Logic.{⊎-elim}
 use Prim.Native.Nat.{ℕ, zero, suc, _+_, _*_, _/_, _%_, _≤_, _<_}
 use native.Mathlib.Nat.{mod-mod, mod-eq-of-lt, add-mod-left, mul-one, div-add-mod', le-div-iff-mul-le, eq-or-lt-of-le}
@@ -13,7 +13,7 @@ use Rattle.laws.proofs.SumLaws.{sum-ext, sum-same, sum-repeat}
 use Rattle.terms.specs.Ranges.{Repetition}
 use Rattle.terms.proofs.Seven.{repetition-divides}
 use Rattle.terms.proofs.RepetitionLaws.{repetition-positive, repetition-most}
-use Rattle.filling.specs.Cycles.{Cycles, takes, orElse, seek, firstFree}
+use Rattle.filling.specs.Cycles.{Cycles, takes, seek, firstFree}
 
 -- ---- a frame's cycles
 
@@ -56,7 +56,7 @@ seek-first cycles zero c =
 seek-first cycles (suc n) c = go (eqb (cycles c) 0) refl (seek-first cycles n (suc c))
   where
     go : (t : Bool) → eqb (cycles c) 0 ≡ t → First cycles (suc c) (suc c + n) (seek cycles n (suc c))
-        → First cycles c (c + suc n) (orElse t c (seek cycles n (suc c)))
+        → First cycles c (c + suc n) (cond t c (seek cycles n (suc c)))
     go true e later =
         record {
           from = omega arith;

@@ -9,8 +9,7 @@ use native.Mathlib.Omega.{arith}
 use borrow.Author.Tests.{eqb-true, eqb-false}
 use lib.Dec.{eqb}
 use Rattle.laws.specs.Sums.{same}
-use Rattle.laws.proofs.SumLaws.{total}
-use Rattle.laws.proofs.SumLaws.{same-equal, same-apart}
+use Rattle.laws.proofs.SumLaws.{total, same-equal, same-apart}
 use Rattle.terms.specs.Ranges.{Repetition}
 use Rattle.cycles.specs.Loads.{slotsFor}
 use Rattle.filling.specs.declared.UnitFrame.{UnitFrame}

@@ -2,7 +2,7 @@
 -- The first free cycle is below the repetition, all cycles of the frame are free, and the slot is one of those needed.
 -- Assumes nothing.
 use mathlib.Core.Path.{_≡_, refl, sym, ap, ap₂, _∙_}
-use mathlib.Core.Bool.{Bool, true, false}
+use mathlib.Core.Bool.{Bool, true, false, cond}
 use mathlib.Core.Logic.{⊎-elim, dite}
 use Prim.Native.Nat.{ℕ, _+_, _*_, _/_, _%_, _≤_, _<_, zero-le}
 use native.Mathlib.Nat.{le-refl, mod-lt, mod-le, mod-add-div'}
@@ -18,7 +18,7 @@ use Rattle.terms.proofs.RepetitionLaws.{repetition-positive, repetition-multipl
 use Rattle.cycles.specs.Loads.{slotsFor}
 use Rattle.filling.specs.declared.UnitFrame.{UnitFrame}
 use Rattle.filling.specs.Cycles.{takes, firstFree}
-use Rattle.filling.specs.Runs.{State, start, next, stayIf, goesTo, after}
+use Rattle.filling.specs.Runs.{State, start, next, goesTo, after}
 use Rattle.filling.proofs.CycleLaws.{takes-again, takes-sum, share-positive, first-free}
 
 -- behind k slots of others, where `left` of a load is to come and the last repetition was Q: no cycle is taken twice,
@@ -66,7 +66,7 @@ pub goes-case : (s : State) → GoesTo s (goesTo s)
 unfolding goesTo
 goes-case s = go (ltb (firstFree (s .cycles)) 64) refl
   where
-    go : (t : Bool) → ltb (firstFree (s .cycles)) 64 ≡ t → GoesTo s (stayIf t s)
+    go : (t : Bool) → ltb (firstFree (s .cycles)) 64 ≡ t → GoesTo s (cond t s (next s))
     go true e = stay (ltb-true (firstFree (s .cycles)) 64 e)
     go false e = turn (ltb-false (firstFree (s .cycles)) 64 e)
 

@@ -1,6 +1,6 @@
 -- How a frame is placed: "A frame goes to the current slot while that has a free cycle, with the first free cycle as its
 -- base; else the next slot is begun."
-use mathlib.Core.Bool.{Bool, true, false}
+use mathlib.Core.Bool.{cond}
 use Prim.Native.Nat.{ℕ, _+_}
 use lib.Dec.{ltb}
 use Rattle.terms.specs.declared.Frame.{Frame}
@@ -26,12 +26,8 @@ abbrev pub next : State → State
 next s = record { begun = s .begun + 1; cycles = λ c. 0 }
 
 -- the slot that a frame goes to: the current one while it has a free cycle, else the next
-abbrev pub stayIf : Bool → State → State
-stayIf true s = s
-stayIf false s = next s
-
 unfoldable pub goesTo : State → State
-goesTo s = stayIf (ltb (firstFree (s .cycles)) 64) s
+goesTo s = cond (ltb (firstFree (s .cycles)) 64) s (next s)
 
 -- where a frame is placed, and the state after it
 abbrev pub placed : State → UnitFrame → Placed

@@ -3,7 +3,7 @@
 -- Assumes nothing.
 use mathlib.Core.Path.{_≡_, refl, sym, ap, ap₂, _∙_}
 use mathlib.Core.Logic.{_⊎_, inl, inr, ⊎-elim, dite}
-use mathlib.Core.Bool.{Bool, true, false}
+use mathlib.Core.Bool.{Bool, true, false, cond}
 use mathlib.Core.List.{List, [], _∷_}
 use Prim.Native.Nat.{ℕ, zero, suc, _+_, _*_, _-_, _≤_, _<_, zero-le}
 use native.Mathlib.Nat.{le-refl, le-of-eq, le-step, add-le-add, add-zero, add-suc, zero-mul, suc-mul, mul-add, mul-zero}
@@ -13,7 +13,7 @@ use native.Mathlib.Numerals.{add-one}
 use native.Mathlib.Omega.{arith}
 use borrow.Author.Tests.{eqb-true, eqb-false}
 use lib.Dec.{eqb}
-use Rattle.laws.specs.Sums.{sum, same, flag}
+use Rattle.laws.specs.Sums.{sum, same}
 
 -- the sum of f over the entries
 unfoldable pub total {ℓ} : {A : Type ℓ} → (A → ℕ) → List A → ℕ
@@ -26,7 +26,7 @@ pub same-cases : (a b : ℕ) → ((a ≡ b) × (same a b ≡ 1)) ⊎ ((a ≡ b �
 unfolding same
 same-cases a b = go (eqb a b) refl
   where
-    go : (t : Bool) → eqb a b ≡ t → ((a ≡ b) × (flag t ≡ 1)) ⊎ ((a ≡ b → ⊥) × (flag t ≡ 0))
+    go : (t : Bool) → eqb a b ≡ t → ((a ≡ b) × (cond {A = ℕ} t 1 0 ≡ 1)) ⊎ ((a ≡ b → ⊥) × (cond {A = ℕ} t 1 0 ≡ 0))
     go true e = inl (eqb-true a b e, refl)
     go false e = inr (eqb-false a b e, refl)
 

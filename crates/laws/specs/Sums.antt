@@ -1,5 +1,5 @@
 -- Sums over the numbers below a bound, and the indicator of an equation.
-use mathlib.Core.Bool.{Bool, true, false}
+use mathlib.Core.Bool.{cond}
 use Prim.Native.Nat.{ℕ, zero, suc, _+_}
 use lib.Dec.{eqb}
 
@@ -9,9 +9,5 @@ sum f zero = 0
 sum f (suc n) = sum f n + f n
 
 -- 1 where the numbers are equal, else 0
-abbrev pub flag : Bool → ℕ
-flag true = 1
-flag false = 0
-
 unfoldable pub same : ℕ → ℕ → ℕ
-same a b = flag (eqb a b)
+same a b = cond (eqb a b) 1 0

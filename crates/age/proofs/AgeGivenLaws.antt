@@ -40,33 +40,29 @@ module _ (limit n g : ℕ) where
       (λ h. absurd (h (omega (arith, p .outside (λ v. h (omega (arith, p .inside v .below)))))))
 
 -- the wait that `longest_wait` gives, of the first start and what the offset lacks of a multiple of g, makes the age
-module _
-    (first span packing slot offset period g : ℕ)
-    (f : first < span)
-    (t : 0 < period)
-    (c : IsGcd period span g)
-  where
-    positive : 0 < g
-    positive = gcd-positive period span g c (omega arith)
+module _ (first span packing slot offset period g : ℕ) (f : first < span) (t : 0 < period)
+    (c : IsGcd period span g) where
+  positive : 0 < g
+  positive = gcd-positive period span g c (omega arith)
 
-    abbrev n : ℕ
-    n = first + (g - offset % g)
+  abbrev n : ℕ
+  n = first + (g - offset % g)
 
-    leaves-below : n % g < packing + span
-    leaves-below = omega (arith, mod-lt n positive, divisor-at-most g span (c .right) (omega arith))
+  leaves-below : n % g < packing + span
+  leaves-below = omega (arith, mod-lt n positive, divisor-at-most g span (c .right) (omega arith))
 
-    pub given-age : (w : ℕ) → LongestGiven (packing + span) n g w → IsAge first span packing slot offset period (w + slot)
-    given-age w p =
-        formula-is-age first span packing slot offset period g (n % g) w f t c (remainder-ahead first offset g positive)
-        (p .inside (positive, leaves-below))
+  pub given-age : (w : ℕ) → LongestGiven (packing + span) n g w → IsAge first span packing slot offset period (w + slot)
+  given-age w p =
+      formula-is-age first span packing slot offset period g (n % g) w f t c (remainder-ahead first offset g positive)
+      (p .inside (positive, leaves-below))
 
-    pub age-given : (a : ℕ) → IsAge first span packing slot offset period a → (w : ℕ) × LongestGiven (packing + span) n g w × (a ≡ w + slot)
-    age-given a p = (w, given, age-unique first span packing slot offset period a (w + slot) p (given-age w given))
-      where
-        w : ℕ
-        w = packing + span - 1 - (packing + span - 1 - n % g) % g
+  pub age-given : (a : ℕ) → IsAge first span packing slot offset period a → (w : ℕ) × LongestGiven (packing + span) n g w × (a ≡ w + slot)
+  age-given a p = (w, given, age-unique first span packing slot offset period a (w + slot) p (given-age w given))
+    where
+      w : ℕ
+      w = packing + span - 1 - (packing + span - 1 - n % g) % g
 
-        given : LongestGiven (packing + span) n g w
-        given =
-            given-inside ((0 < g) × (n % g < packing + span)) (Longest (packing + span) g (n % g)) w (positive, leaves-below)
-            (longest-from-top (packing + span) g (n % g) (mod-lt n positive) leaves-below)
+      given : LongestGiven (packing + span) n g w
+      given =
+          given-inside ((0 < g) × (n % g < packing + span)) (Longest (packing + span) g (n % g)) w (positive, leaves-below)
+          (longest-from-top (packing + span) g (n % g) (mod-lt n positive) leaves-below)

@@ -13,11 +13,8 @@ use Rattle.age.specs.Age.{Start, Release, Carries, ValueAge, IsAge}
 use Rattle.age.specs.Formula.{Remainder, Longest, paperAge, pMax}
 use Rattle.age.proofs.FormulaLaws.{longest-top, paper-longest, remainder-ahead}
 
-pub age-unique :
-    (first span packing slot offset period a b : ℕ) →
-    IsAge first span packing slot offset period a →
-    IsAge first span packing slot offset period b →
-    a ≡ b
+pub age-unique : (first span packing slot offset period a b : ℕ) → IsAge first span packing slot offset period a
+    → IsAge first span packing slot offset period b → a ≡ b
 age-unique first span packing slot offset period a b p q =
     omega
     (arith, q .largest (p .release) a (p .released) (p .reached), p .largest (q .release) b (q .released) (q .reached))
@@ -58,70 +55,63 @@ module _ (first span packing : ℕ) where
       at-once : r + packing ≤ first → (t : ℕ) × Carries first span packing r t
       at-once h = (first, record { start = (0, omega arith); packed = h; earliest = λ u b l. omega arith })
 
-      later :
-          first < r + packing →
-          (r + packing - first ≤ steps * span) × (steps * span < r + packing - first + span) →
-          (t : ℕ) × Carries first span packing r t
+      later : first < r + packing
+          → (r + packing - first ≤ steps * span) × (steps * span < r + packing - first + span)
+          → (t : ℕ) × Carries first span packing r t
       later h b = (first + steps * span, carries-by r (first + steps * span) (steps, refl) (omega arith) (omega arith))
 
 -- the formula in 01's words gives the definition's age
-module _
-    (first span packing slot offset period g d w : ℕ)
-    (f : first < span)
-    (t : 0 < period)
-    (c : IsGcd period span g)
-    (m : Remainder first offset g d)
-    (l : Longest (packing + span) g d w)
-  where
-    s : 0 < span
-    s = omega arith
+module _ (first span packing slot offset period g d w : ℕ) (f : first < span) (t : 0 < period)
+    (c : IsGcd period span g) (m : Remainder first offset g d) (l : Longest (packing + span) g d w) where
+  s : 0 < span
+  s = omega arith
 
-    -- the longest wait is the way from some release to some start
-    meets : Congruent g first (offset + w) → Ahead span period g → Ahead period span g → (j k : ℕ) × (first + k * span ≡ offset + j * period + w)
-    meets (a, b, e) (x, y, p) (v, z, q) =
-        (b * v + a * y, a * x + b * z, omega (arith, e, ap (λ (i : ℕ). a * i) p, ap (λ (i : ℕ). b * i) q))
+  -- the longest wait is the way from some release to some start
+  meets : Congruent g first (offset + w) → Ahead span period g → Ahead period span g → (j k : ℕ) × (first + k * span ≡ offset + j * period + w)
+  meets (a, b, e) (x, y, p) (v, z, q) =
+      (b * v + a * y, a * x + b * z, omega (arith, e, ap (λ (i : ℕ). a * i) p, ap (λ (i : ℕ). b * i) q))
 
-    congruent : Congruent g first (offset + w)
-    congruent =
-        congruent-of g first (offset + w)
-        (sym (m .remains) ∙ ap (λ (i : ℕ). (offset + i) % g) (sym (l .leaves)) ∙ add-mod-mod offset w g)
+  congruent : Congruent g first (offset + w)
+  congruent =
+      congruent-of g first (offset + w)
+      (sym (m .remains) ∙ ap (λ (i : ℕ). (offset + i) % g) (sym (l .leaves)) ∙ add-mod-mod offset w g)
 
-    reaches : (j k : ℕ) → first + k * span ≡ offset + j * period + w → ValueAge first span packing slot (offset + j * period) (w + slot)
-    reaches j k e =
-        record {
-          sent = first + k * span;
-          carries =
-              carries-by first span packing (offset + j * period) (first + k * span) (k, refl)
-              (omega (arith, divisor-at-most g span (c .right) s, longest-top (packing + span) g d w (divisor-positive g span (c .right) s) l))
-              (omega (arith, l .below));
-          age = omega arith;
-        }
+  reaches : (j k : ℕ) → first + k * span ≡ offset + j * period + w → ValueAge first span packing slot (offset + j * period) (w + slot)
+  reaches j k e =
+      record {
+        sent = first + k * span;
+        carries =
+            carries-by first span packing (offset + j * period) (first + k * span) (k, refl)
+            (omega (arith, divisor-at-most g span (c .right) s, longest-top (packing + span) g d w (divisor-positive g span (c .right) s) l))
+            (omega (arith, l .below));
+        age = omega arith;
+      }
 
-    -- each wait leaves d
-    wait-leaves : (j k v : ℕ) → offset + j * period + v ≡ first + k * span → v % g ≡ d
-    wait-leaves j k v e = same-remainder g v d (from (congruent-of g (offset + d) first (m .remains))) ∙ mod-eq-of-lt (m .below)
-      where
-        from : Congruent g (offset + d) first → Congruent g v d
-        from (a, b, h) = (
-          j * c .left .0 + b,
-          a + k * c .right .0,
-          omega (arith, h, ap (λ (i : ℕ). j * i) (c .left .1), ap (λ (i : ℕ). k * i) (c .right .1)),
-        )
+  -- each wait leaves d
+  wait-leaves : (j k v : ℕ) → offset + j * period + v ≡ first + k * span → v % g ≡ d
+  wait-leaves j k v e = same-remainder g v d (from (congruent-of g (offset + d) first (m .remains))) ∙ mod-eq-of-lt (m .below)
+    where
+      from : Congruent g (offset + d) first → Congruent g v d
+      from (a, b, h) = (
+        j * c .left .0 + b,
+        a + k * c .right .0,
+        omega (arith, h, ap (λ (i : ℕ). j * i) (c .left .1), ap (λ (i : ℕ). k * i) (c .right .1)),
+      )
 
-    none-longer : (r b : ℕ) → Release offset period r → ValueAge first span packing slot r b → b ≤ w + slot
-    none-longer r b (j, e) v = from (v .carries .start .0) (v .carries .start .1)
-      where
-        from : (k : ℕ) → v .sent ≡ first + k * span → b ≤ w + slot
-        from k h =
-            omega
-            (arith, v .age, l .largest (v .sent - r) (omega (arith, wait-below first span packing f r (v .sent) (v .carries))) (wait-leaves j k (v .sent - r) (omega (arith, v .carries .packed))))
+  none-longer : (r b : ℕ) → Release offset period r → ValueAge first span packing slot r b → b ≤ w + slot
+  none-longer r b (j, e) v = from (v .carries .start .0) (v .carries .start .1)
+    where
+      from : (k : ℕ) → v .sent ≡ first + k * span → b ≤ w + slot
+      from k h =
+          omega
+          (arith, v .age, l .largest (v .sent - r) (omega (arith, wait-below first span packing f r (v .sent) (v .carries))) (wait-leaves j k (v .sent - r) (omega (arith, v .carries .packed))))
 
-    pub formula-is-age : IsAge first span packing slot offset period (w + slot)
-    formula-is-age = from (meets congruent (bezout span period g s t (gcd-swap period span g c)) (bezout period span g t s c))
-      where
-        from : (j k : ℕ) × (first + k * span ≡ offset + j * period + w) → IsAge first span packing slot offset period (w + slot)
-        from (j, k, e) =
-            record { release = offset + j * period; released = (j, refl); reached = reaches j k e; largest = none-longer }
+  pub formula-is-age : IsAge first span packing slot offset period (w + slot)
+  formula-is-age = from (meets congruent (bezout span period g s t (gcd-swap period span g c)) (bezout period span g t s c))
+    where
+      from : (j k : ℕ) × (first + k * span ≡ offset + j * period + w) → IsAge first span packing slot offset period (w + slot)
+      from (j, k, e) =
+          record { release = offset + j * period; released = (j, refl); reached = reaches j k e; largest = none-longer }
 
 module _ (first span packing slot offset period : ℕ) (f : first < span) (t : 0 < period) where
   -- equations 6 and 7 as they stand

@@ -11,14 +11,8 @@ use Rattle.age.specs.AgeGiven.{InRange}
 use Rattle.age.specs.Bounds.{Bounded}
 
 -- a slot of the segment in a cycle below the repetition starts before the span ends
-pub first-below-span :
-    (R cycle base k slots slot : ℕ) →
-    base < R →
-    1 ≤ k →
-    k ≤ slots →
-    1 ≤ slot →
-    slots * slot ≤ cycle →
-    base * cycle + (k - 1) * slot < R * cycle
+pub first-below-span : (R cycle base k slots slot : ℕ) → base < R → 1 ≤ k → k ≤ slots → 1 ≤ slot
+    → slots * slot ≤ cycle → base * cycle + (k - 1) * slot < R * cycle
 first-below-span R cycle base k slots slot b l h s f =
     let before : k - 1 + 1 ≤ slots = omega arith in
     omega (arith, mul-le-mul-right cycle b, mul-le-mul-right slot before)

@@ -12,12 +12,9 @@ use Rattle.age.proofs.FormulaLaws.{longest-top}
 use Rattle.age.proofs.AgeLaws.{carried, wait-below, age-formula, Formula}
 
 -- the starts of a frame are among those of one that starts n times as often
-pub oftener-younger :
-    (first span n packing slot offset period a b : ℕ) →
-    0 < n * span →
-    IsAge first span packing slot offset period a →
-    IsAge first (n * span) packing slot offset period b →
-    a ≤ b
+pub oftener-younger : (first span n packing slot offset period a b : ℕ) → 0 < n * span
+    → IsAge first span packing slot offset period a → IsAge first (n * span) packing slot offset period b
+    → a ≤ b
 oftener-younger first span n packing slot offset period a b h p q = from (carried first (n * span) packing h (p .release))
   where
     from : (t : ℕ) × Carries first (n * span) packing (p .release) t → a ≤ b
@@ -48,12 +45,8 @@ module _ (first span packing slot offset period : ℕ) (f : first < span) (t : 0
           (arith, far, e .age, longest-top (packing + span) g (e .d) (e .w) (divisor-positive g span (e .divisor .right) (omega arith)) (e .wait))
 
   -- the next value has a start of its own, later than that of the value before it
-  pub none-overwritten :
-      span ≤ period →
-      (r u v : ℕ) →
-      Carries first span packing r u →
-      Carries first span packing (r + period) v →
-      u < v
+  pub none-overwritten : span ≤ period → (r u v : ℕ) → Carries first span packing r u
+      → Carries first span packing (r + period) v → u < v
   none-overwritten h r u v c d = omega (arith, wait-below first span packing f r u c, d .packed)
 
 -- an age is at least the slot length

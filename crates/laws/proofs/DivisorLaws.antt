@@ -129,11 +129,8 @@ unfolding euclid
 euclid-finds zero a b h = found-end a b (omega arith)
 euclid-finds (suc n) a b h = from (eqb b 0) refl (λ l. euclid-finds n b (a % b) (omega (arith, mod-lt a l)))
   where
-    from :
-        (t : Bool) →
-        eqb b 0 ≡ t →
-        (0 < b → Found b (a % b) (euclid n b (a % b))) →
-        Found a b (elim t [ true ↦ a | false ↦ euclid n b (a % b) ])
+    from : (t : Bool) → eqb b 0 ≡ t → (0 < b → Found b (a % b) (euclid n b (a % b)))
+        → Found a b (elim t [ true ↦ a | false ↦ euclid n b (a % b) ])
     from true e next = found-end a b (eqb-true b 0 e)
     from false e next = found-step a b (euclid n b (a % b)) (next (pos-of-ne-zero (eqb-false b 0 e)))
 

@@ -40,8 +40,7 @@ below-says P f s (suc n) = from (f n) (below f n) (s n) (below-says P f s n)
     all : P n → ((k : ℕ) → k < n → P k) → (k : ℕ) → k < suc n → P k
     all p q k h = ⊎-elim (λ e. subst P (sym (suc-inj e)) p) (λ l. q k (le-of-suc-le-suc l)) (eq-or-lt-of-le h)
 
-    from :
-        (a b : Bool) → Says (P n) a → Says ((k : ℕ) → k < n → P k) b → Says ((k : ℕ) → k < suc n → P k) (both a b)
+    from : (a b : Bool) → Says (P n) a → Says ((k : ℕ) → k < n → P k) b → Says ((k : ℕ) → k < suc n → P k) (both a b)
     from true true p q = all p q
     from true false p q = λ h. q (λ k l. h k (le-step l))
     from false b p q = λ h. p (h n (le-refl (suc n)))

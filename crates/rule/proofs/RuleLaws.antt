@@ -69,15 +69,8 @@ module _ (s : Settings) (x : Signal) (v : Valid s x) where
         (given-age (firstStart s (frameIn (k + 1) R b)) (R * s .cycle) (s .packing) (s .slot) (x .offset) (x .period) g f (v .signal .period .0) c w there)
 
   -- "If some R keeps it, every smaller one does."
-  pub smaller-keeps :
-      (slots : List ℕ) →
-      ((k : ℕ) → List·Memᴰ k slots → Between 1 (s .slots) k) →
-      (Q R : ℕ) →
-      Repetition Q →
-      Repetition R →
-      Q ≤ R →
-      Keeps s x slots R →
-      Keeps s x slots Q
+  pub smaller-keeps : (slots : List ℕ) → ((k : ℕ) → List·Memᴰ k slots → Between 1 (s .slots) k) → (Q R : ℕ)
+      → Repetition Q → Repetition R → Q ≤ R → Keeps s x slots R → Keeps s x slots Q
   smaller-keeps slots inside Q R q r h keeps k b a m l p = from (repetition-multiple Q R q r h)
     where
       from : (n : ℕ) × (R ≡ n * Q) → a ≤ x .bound

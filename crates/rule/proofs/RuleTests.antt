@@ -51,11 +51,8 @@ unfoldable pub keeps-at : (limit g slot bound slots cycle bases n : ℕ) → Boo
 keeps-at limit g slot bound slots cycle bases n =
     below (λ b. below (λ k. leb (wait limit g (n + b * cycle + k * slot) + slot) bound) slots) bases
 
-keeps-at-says :
-    (limit g slot bound slots cycle bases n : ℕ) →
-    0 < g →
-    g ≤ limit →
-    Says (BasesKept limit g slot bound slots cycle bases n) (keeps-at limit g slot bound slots cycle bases n)
+keeps-at-says : (limit g slot bound slots cycle bases n : ℕ) → 0 < g → g ≤ limit
+    → Says (BasesKept limit g slot bound slots cycle bases n) (keeps-at limit g slot bound slots cycle bases n)
 unfolding keeps-at
 keeps-at-says limit g slot bound slots cycle bases n h l =
     below-says _ _ (λ b. below-says _ _ (λ k. wait-says limit g slot bound (n + b * cycle + k * slot) h l) slots) bases
@@ -84,16 +81,8 @@ abbrev fails-test : (s : Settings) (x : Signal) (R : ℕ) → Test (Valid s x �
 fails-test s x R = (not (keeps-flag s x R), λ t v r. said-false (keeps-flag s x R) (keeps-says s x R v r) t)
 
 -- where R keeps and its double does not, none above R keeps
-largest-by :
-    (s : Settings) (x : Signal) (Q R : ℕ) →
-    Valid s x →
-    Repetition Q →
-    (Keeps s x (segment s) Q → ⊥) →
-    ((P : ℕ) → Repetition P → R < P → Q ≤ P) →
-    (P : ℕ) →
-    Repetition P →
-    Keeps s x (segment s) P →
-    P ≤ R
+largest-by : (s : Settings) (x : Signal) (Q R : ℕ) → Valid s x → Repetition Q → (Keeps s x (segment s) Q → ⊥)
+    → ((P : ℕ) → Repetition P → R < P → Q ≤ P) → (P : ℕ) → Repetition P → Keeps s x (segment s) P → P ≤ R
 largest-by s x Q R v q fails next P p keeps =
     dite (decLe P R) (λ h. h)
     (λ h.

@@ -3,82 +3,74 @@
 use mathlib.Core.Path.{_≡_, _∙_, sym, ap, subst}
 use mathlib.Core.List.{List, [], _∷_}
 use mathlib.Core.Logic.{_⊎_, inl, inr, ⊎-elim, dite}
-use Prim.Native.Nat.{ℕ, _*_, _<_}
+use Prim.Native.Nat.{ℕ, _*_}
 use native.Mathlib.Decide.{ℕ-discrete, decLt}
 use native.Mathlib.Omega.{arith}
-use lib.ListN.{length, getD, take}
-use Rattle.laws.specs.Rows.{Row, FirstRow, Hold}
+use lib.ListN.{length, take}
+use Rattle.laws.specs.Rows.{Row}
 use Rattle.laws.specs.Lowest.{Between}
 use Rattle.laws.proofs.RowLaws.{front-number, past}
 use Rattle.terms.specs.declared.Settings.{Settings}
 use Rattle.terms.specs.Answers.{numberOf, placeOf, roomRow}
-use Rattle.terms.specs.Requests.{Request}
-use Rattle.terms.specs.Ranges.{settingsFrom, settingWord}
+use Rattle.terms.specs.Requests.{Request, PlanRoom}
+use Rattle.terms.specs.Ranges.{settingWord}
 use Rattle.terms.specs.Lists.{signalSize, count}
-use Rattle.book.specs.Words.{AllBelow}
 use Rattle.book.specs.Reading.{signalsOf, settingsIn, fiveZeros, listIn, bookRows}
 use Rattle.book.specs.Outcomes.{ReadOutcome, WriteOutcome}
 use Rattle.book.proofs.SoundLaws.{sound-length, sound-or-not}
 use Rattle.editor.specs.Rows.{resultBytes}
 use Rattle.book.proofs.ReadLaws.{read-gives}
 use Rattle.book.proofs.RoundTrips.{write-then-read, read-then-write}
-use Rattle.promises.specs.Calls.{Return, WhereDone, Plans, PlansList, PlansBook, Reads, ReadsFromC, Writes, WritesFromC}
+use Rattle.promises.specs.Calls.{Return, Routine, WhereDone, Plans, PlansList, PlansBook, Reads, ReadsFromC, Writes, WritesFromC}
 use Rattle.promises.specs.Shows.{frameOf, overWords}
-use Rattle.promises.specs.Demand2.{Demand2Planning, Demand2Editor, Demand2Books}
+use Rattle.promises.specs.Demand2.{TableShown, Demand2Planning, Demand2Editor, Demand2Books}
 use Rattle.promises.proofs.Accepted.{frames-shown, ages-shown, plan-accepted}
 use Rattle.promises.proofs.Cells.{table-shown}
 use Rattle.promises.proofs.Lit.{slots-lit}
-use Rattle.promises.proofs.Found.{words-found, book-found}
-use Rattle.promises.proofs.Demand1.{list-plans, book-plans, c-reads, read-c-1, c-writes}
+use Rattle.promises.proofs.Found.{WordsFound, words-found, list-found, book-found}
+use Rattle.promises.proofs.Demand1.{book-plans, c-reads, read-c-1, c-writes}
 
 -- ---- plans
 
-pub plan-2 : Demand2Planning Plans
-plan-2 =
+-- over words, of any routine that finds and shows a plan
+words-2 : {G : Routine Request PlanRoom} → WhereDone G (λ x l y. WordsFound x l (y .place) (y .lent)) → Demand2Planning G
+words-2 {G} finds =
     record {
-      ages = λ x l y p z. ages-shown (words-found x l y p z .found);
-      table = λ x l y p z.
-          let f = words-found x l y p z in
-          table-shown (x .settings) (x .list) (f .found .R) (l .cells) (y .lent .cells) (f .cells) (frameOf (overWords .word (y .lent)))
-          (frames-shown (f .found)) (λ q m. f .found .results q m .frame);
-      cells-behind = λ x l y p z. let f = words-found x l y p z in (f .cells .same-length, f .cells .later);
-      results-behind = λ x l y p z. words-found x l y p z .behind;
-      slots = λ x l y p z.
-          let f = words-found x l y p z in
-          slots-lit (x .settings) (count (x .list)) (frameOf (overWords .word (y .lent))) (y .lent .cells) (frames-shown (f .found))
-          (table-shown (x .settings) (x .list) (f .found .R) (l .cells) (y .lent .cells) (f .cells) (frameOf (overWords .word (y .lent)))
-          (frames-shown (f .found)) (λ q m. f .found .results q m .frame))
-          ∙ plan-accepted (f .found) .used;
+      ages = λ x l y g z. ages-shown (finds x l y g z .found);
+      table = table;
+      cells-behind = λ x l y g z. let f = finds x l y g z in (f .cells .same-length, f .cells .later);
+      results-behind = λ x l y g z. finds x l y g z .behind;
+      slots = λ x l y g z.
+          let f = finds x l y g z .found in
+          slots-lit (x .settings) (count (x .list)) _ (y .lent .cells) (frames-shown f) (table x l y g z) ∙ plan-accepted f .used;
     }
+  where
+    table : WhereDone G (λ x l y. TableShown (x .settings) (count (x .list)) (frameOf (overWords .word (y .lent))) (y .lent .cells))
+    table x l y g z =
+        let f = finds x l y g z in
+        table-shown (x .settings) (x .list) (f .found .R) (l .cells) (y .lent .cells) (f .cells) _ (frames-shown (f .found))
+        (λ q m. f .found .results q m .frame)
+
+pub plan-2 : Demand2Planning Plans
+plan-2 = words-2 words-found
 
 pub plan-list-2 : Demand2Planning PlansList
-plan-list-2 =
-    record {
-      ages = λ x l y p. plan-2 .ages x l y (list-plans x l y p);
-      table = λ x l y p. plan-2 .table x l y (list-plans x l y p);
-      cells-behind = λ x l y p. plan-2 .cells-behind x l y (list-plans x l y p);
-      results-behind = λ x l y p. plan-2 .results-behind x l y (list-plans x l y p);
-      slots = λ x l y p. plan-2 .slots x l y (list-plans x l y p);
-    }
+plan-list-2 = words-2 list-found
 
 pub plan-book-2 : Demand2Editor PlansBook
 plan-book-2 =
     record {
-      ages = λ book l y p z. let q = book-plans book l y p in ages-shown (book-found book l y (q .0) (q .1) (q .2) z .found);
-      behind = λ book l y p z. let q = book-plans book l y p in book-found book l y (q .0) (q .1) (q .2) z .behind;
-      bytes = bytes;
+      ages = λ book l y g z. ages-shown (book-found book l y g z .found);
+      behind = λ book l y g z. book-found book l y g z .behind;
+      -- a refusal changes nothing; else the results are bytes, and what lies behind stays
+      bytes = λ book l y g below j.
+          let (a, p, t) = book-plans book l y g in
+          dite (ℕ-discrete (numberOf a) 0)
+          (λ z.
+          let shown = p .done z in
+          dite (decLt j (resultBytes (listIn book))) (shown .bytes j) (λ n. omega (arith, shown .later j (omega arith), below j)))
+          (λ n. rw (p .refused n) (below j));
     }
-  where
-    -- a refusal changes nothing; else the results are bytes, and what lies behind stays
-    bytes : (book l : List ℕ) (y : Return (List ℕ)) → PlansBook book l y → AllBelow 256 l → AllBelow 256 (y .lent)
-    bytes book l y p below j =
-        let q = book-plans book l y p in
-        dite (ℕ-discrete (numberOf (q .0)) 0)
-        (λ z.
-        let shown = q .1 .done z in
-        dite (decLt j (resultBytes (listIn book))) (λ h. shown .bytes j h)
-        (λ n. subst (λ (x : ℕ). x < 256) (sym (shown .later j (omega arith))) (below j)))
-        (λ n. subst (λ (e : List ℕ). getD e j 0 < 256) (sym (q .1 .refused n)) (below j))
 
 -- ---- books
 
@@ -93,12 +85,7 @@ books-2 =
           let blocks : book ≡ take (512 * placeOf a) (w .lent) = same ∙ ap (λ (n : ℕ). take (512 * n) (w .lent)) (t .1) in
           let given =
           write-then-read settings words out (sym (t .0) ∙ z) enough (subst (λ (b : List ℕ). ReadOutcome b l r (y .lent)) blocks read) in
-          record {
-            accepted = u .0 ∙ given .0;
-            signals = u .1 ∙ given .1;
-            settings = e ∙ given .2;
-            words = given .3;
-          };
+          record { accepted = u .0 ∙ given .0; signals = u .1 ∙ given .1; settings = e ∙ given .2; words = given .3 };
       same-bytes = λ s book l y (r, read, e, t) z bytes x room w (a, out, u) same enough.
           let values : x ≡ record { settings = r .settings; list = take (signalSize * placeOf (r .answer)) (y .lent) } =
           same ∙ λ i. record { settings = e i; list = take (signalSize * t .1 i) (y .lent) } in
@@ -112,52 +99,32 @@ books-2 =
           };
     }
 
--- from C the settings come word by word
-word-by-word : (s t : Settings) (word : ℕ → ℕ) → s ≡ settingsFrom word → ((w : ℕ) → word w ≡ settingWord t w) → s ≡ t
-word-by-word s t word e h =
-    e ∙ λ i. record { cycle = h 2 i; slot = h 3 i; slots = h 4 i; packing = h 5 i; payload = h 6 i }
-
--- those of a sound book, else five zeros
+-- from C the settings come word by word: those of a sound book, else five zeros; and it is sound where the number is 0 or 10
 module _ (s : Settings) (book l : List ℕ) (y : Return (List ℕ)) (p : ReadsFromC s book l y) where
-  c-sound : Hold (bookRows book) → s ≡ settingsIn book
-  c-sound h =
+  c-settings-are : (t : Settings) → ((w : ℕ) → p .2 .1 w .settings ≡ t) → s ≡ t
+  c-settings-are t same =
       let (word, told, e) = p .2 in
-      word-by-word s (settingsIn book) word e
-      (λ w. told w .answer ∙ ap (λ (t : Settings). settingWord t w) (told w .outcome .sound h))
+      let h : (w : ℕ) → word w ≡ settingWord t w = λ w. told w .answer ∙ ap (λ (t : Settings). settingWord t w) (same w) in
+      e ∙ λ i. record { cycle = h 2 i; slot = h 3 i; slots = h 4 i; packing = h 5 i; payload = h 6 i }
 
-  c-unsound : (Hold (bookRows book) → ⊥) → s ≡ fiveZeros
-  c-unsound n =
-      let (word, told, e) = p .2 in
-      word-by-word s fiveZeros word e
-      (λ w. told w .answer ∙ ap (λ (t : Settings). settingWord t w) (told w .outcome .unsound n))
+  abbrev last : List Row
+  last = roomRow (signalSize * signalsOf book) (length l) ∷ []
 
-  -- a book is sound where the number is 0 or 10
   c-settings : (y .number ≡ 0) ⊎ (y .number ≡ 10) → s ≡ settingsIn book
-  c-settings g = ⊎-elim c-sound (λ n. absurd (outside (unsound-number n) g)) (sound-or-not book)
-    where
-      unsound-number : (Hold (bookRows book) → ⊥) → Between 1 5 (y .number)
-      unsound-number n =
-          front-number (Between 1 5) (bookRows book) (roomRow (signalSize * signalsOf book) (length l) ∷ []) (λ q. q ≡ signalsOf book)
-          (y .number) (y .place) (omega arith, (omega arith, (omega arith, (omega arith, (omega arith, tt))))) n
-          (read-c-1 .numbered book l y (s, p))
-
-      outside : Between 1 5 (y .number) → (y .number ≡ 0) ⊎ (y .number ≡ 10) → ⊥
-      outside b (inl z) = omega (arith, b, z)
-      outside b (inr t) = omega (arith, b, t)
+  c-settings g =
+      c-settings-are (settingsIn book) (λ w.
+      p .2 .1 w .outcome .sound (⊎-elim (λ h. h) (λ n.
+      let b =
+      front-number (Between 1 5) (bookRows book) last (λ q. q ≡ signalsOf book) _ _ (omega arith) n
+      (read-c-1 .numbered book l y (s, p)) in
+      absurd (⊎-elim (λ z. omega (arith, b, z)) (λ t. omega (arith, b, t)) g)) (sound-or-not book)))
 
   c-zeros : ((y .number ≡ 0) ⊎ (y .number ≡ 10) → ⊥) → s ≡ fiveZeros
-  c-zeros n = ⊎-elim (λ h. absurd (room (read-last h))) c-unsound (sound-or-not book)
-    where
-      last : List Row
-      last = roomRow (signalSize * signalsOf book) (length l) ∷ []
-
-      read-last : Hold (bookRows book) → FirstRow last (λ q. q ≡ signalsOf book) (y .number) (y .place)
-      read-last h =
-          past last (λ q. q ≡ signalsOf book) (y .number) (y .place) (bookRows book) h (read-c-1 .numbered book l y (s, p))
-
-      room : FirstRow last (λ q. q ≡ signalsOf book) (y .number) (y .place) → ⊥
-      room (inl (f, e, q)) = n (inr e)
-      room (inr (r, (e, q))) = n (inl e)
+  c-zeros n =
+      c-settings-are fiveZeros (λ w.
+      p .2 .1 w .outcome .unsound (λ h.
+      ⊎-elim (λ f. n (inr (f .1))) (λ f. n (inl (f .1 .0)))
+      (past last (λ q. q ≡ signalsOf book) _ _ (bookRows book) h (read-c-1 .numbered book l y (s, p)))))
 
 -- where the reading is done, the settings are those that it gives
 c-reads-done : (s : Settings) → WhereDone (ReadsFromC s) (Reads s)

@@ -1,6 +1,6 @@
 -- For every input some outcome meets each contract of planning, so no statement about outcomes holds for want of one.
 -- Assumes nothing.
-use mathlib.Core.Path.{refl, sym}
+use mathlib.Core.Path.{_≡_, refl, sym}
 use mathlib.Core.List.{List, _∷_}
 use mathlib.Core.Logic.{dite}
 use Prim.Native.Nat.{ℕ, _*_, _≤_, _<_}
@@ -9,15 +9,15 @@ use native.Mathlib.Omega.{arith}
 use lib.ListN.{length, replicate, length-replicate}
 use Rattle.laws.specs.Lowest.{EachTo}
 use Rattle.laws.specs.Rows.{Row, Hold}
-use Rattle.laws.proofs.RowLaws.{zero-holds, hold-rest}
+use Rattle.laws.proofs.RowLaws.{Numbered, zero-holds, hold-rest}
 use Rattle.laws.proofs.DecidedLaws.{Decided, first-row, decided-join}
 use Rattle.terms.specs.declared.Settings.{Settings}
 use Rattle.terms.specs.declared.Answer.{Answer}
 use Rattle.terms.specs.declared.Answer.the-variants.{Count, Setting, Field, Bound, Slots, Room}
 use Rattle.terms.specs.Answers.{numberOf, placeOf, Answers, roomRow}
 use Rattle.terms.specs.Requests.{Request, PlanRoom, request, planRoom}
-use Rattle.terms.specs.Ranges.{SettingsInRange, SignalInRange}
-use Rattle.terms.specs.Lists.{count, groupOf, groups, EachSignal}
+use Rattle.terms.specs.Ranges.{SettingsInRange}
+use Rattle.terms.specs.Lists.{count, groupOf, groups}
 use Rattle.terms.specs.Results.{resultSize}
 use Rattle.terms.proofs.AnswersLaws.{Answerable, answerable-join, answer-exists}
 use Rattle.filling.proofs.Exists.{show-exists}
@@ -51,11 +51,20 @@ planning-answerable x l = (
 bytes-answerable : (s : Settings) (list : List ℕ) (lent : ℕ) → Answerable (bytesRows s list lent)
 bytes-answerable s list lent = ((λ p w. (Setting p, refl, refl)), ((λ p e. (Room p, refl, refl)), signals-answerable s list))
 
--- ---- what is found where all rows hold
+-- ---- an outcome for every input
 
--- the slots needed
-needed-exists : (s : Settings) (list : List ℕ) → SettingsInRange s → EachSignal list (SignalInRange s) → (p : ℕ) × Needed s list p
-needed-exists s list settings signals = let r = repetitions-exist s list settings signals in (_, (r .0, r .1, refl))
+-- rows that are decided and answerable have an answer; room is shown where all hold, else it stays
+outcome-exists : {Room : Type 0} (rows : List Row) (done : ℕ → Type 0) (l : Room) (Shown : Room → Type 0)
+    → Decided rows → Answerable rows → Numbered rows → (Hold rows → (exit : Room) × Shown exit) → ((exit : Room) → Shown exit → (p : ℕ) × done p)
+    → (a : Answer) × (exit : Room) × Answers rows done a × ((numberOf a ≡ 0 → ⊥) → exit ≡ l) × (numberOf a ≡ 0 → Shown exit)
+outcome-exists rows done l Shown decided answerable numbered show place =
+    let (n, p, first) = first-row rows done decided (λ h. let e = show h in place (e .0) (e .1)) in
+    let (a, f) = answer-exists rows done n p answerable first in
+    dite (ℕ-discrete (numberOf a) 0)
+    (λ z.
+    let (exit, shown) = show (zero-holds done (numberOf a) (placeOf a) rows numbered f z .0) in
+    (a, exit, f, (λ n. absurd (n z)), λ y. shown))
+    (λ n. (a, l, f, (λ m. refl), λ z. absurd (n z)))
 
 -- the plan shown, in room that is long enough
 plan-exists : (s : Settings) (list : List ℕ) (lent : PlanRoom) → SettingsInRange s → Hold (signalRows s list)
@@ -71,34 +80,13 @@ plan-exists s list lent settings (signals, (kept, (fits, u))) cells results =
 
 pub planned-exists : (x : Request) (l : PlanRoom) → (a : Answer) × (exit : PlanRoom) × Planned x l a exit
 planned-exists x l =
-    let r = first-row rows done (planning-decided x l) (λ h. needed-exists (x .settings) (x .list) (h .0) (h .1 .1 .1 .1 .0)) in
-    let b = answer-exists rows done (r .0) (r .1) (planning-answerable x l) (r .2) in
-    outcome (b .0) (b .1)
-  where
-    rows : List Row
-    rows = planningRows x l
-
-    done : ℕ → Type 0
-    done = Needed (x .settings) (x .list)
-
-    outcome : (a : Answer) → Answers rows done a → (a : Answer) × (exit : PlanRoom) × Planned x l a exit
-    outcome a f =
-        dite (ℕ-discrete (numberOf a) 0)
-        (λ z.
-        let h = zero-holds done (numberOf a) (placeOf a) rows (planning-numbered x l) f z .0 in
-        let e = plan-exists (x .settings) (x .list) l (h .0) (h .1 .1 .1 .1) (h .1 .1 .0) (h .1 .1 .1 .0) in
-        (a, e .0, record { answer = f; refused = λ n. absurd (n z); done = λ y. e .1 }))
-        (λ n. (a, l, record { answer = f; refused = λ m. refl; done = λ z. absurd (n z) }))
+    let (a, exit, f, refused, done) =
+    outcome-exists (planningRows x l) (Needed (x .settings) (x .list)) l (PlanShown x l) (planning-decided x l) (planning-answerable x l)
+    (planning-numbered x l) (λ h. plan-exists (x .settings) (x .list) l (h .0) (h .1 .1 .1 .1) (h .1 .1 .0) (h .1 .1 .1 .0))
+    (λ exit shown. (_, (shown .R, shown .repetitions, refl))) in
+    (a, exit, record { answer = f; refused = refused; done = done })
 
 -- ---- a book from the editor
-
-editor-decided : (book : List ℕ) (lent : ℕ) → Decided (editorRows book lent)
-editor-decided book lent =
-    let s = settingsIn book in
-    let list = listIn book in
-    decided-join (bookRows book) (bytesRows s list lent) (book-decided book) (λ sound.
-    after-settings s (roomRow (resultBytes list) lent ∷ signalRows s list) (λ settings.
-    after-room (resultBytes list) lent (signalRows s list) (signals-decided s list settings)))
 
 module _ (book l : List ℕ) where
   abbrev s : Settings
@@ -106,6 +94,12 @@ module _ (book l : List ℕ) where
 
   abbrev list : List ℕ
   list = listIn book
+
+  editor-decided : Decided (editorRows book (length l))
+  editor-decided =
+      decided-join (bookRows book) (bytesRows s list (length l)) (book-decided book) (λ sound.
+      after-settings s (roomRow (resultBytes list) (length l) ∷ signalRows s list) (λ settings.
+      after-room (resultBytes list) (length l) (signalRows s list) (signals-decided s list settings)))
 
   -- the bytes of a plan in words of its own
   bytes-exist : Hold (bytesRows s list (length l)) → (exit : List ℕ) × BytesShown book l exit
@@ -118,25 +112,10 @@ module _ (book l : List ℕ) where
 
   pub book-planned-exists : (a : Answer) × (exit : List ℕ) × BookPlanned book l a exit
   book-planned-exists =
-      let r = first-row rows done (editor-decided book (length l)) (λ h. needed-exists s list (rest h .0) (rest h .1 .1 .0)) in
-      let b =
-      answer-exists rows done (r .0) (r .1)
-      (answerable-join (bookRows book) (bytesRows s list (length l)) (book-answerable book) (bytes-answerable s list (length l))) (r .2) in
-      outcome (b .0) (b .1)
-    where
-      rows : List Row
-      rows = editorRows book (length l)
-
-      done : ℕ → Type 0
-      done = Needed s list
-
-      rest : Hold rows → Hold (bytesRows s list (length l))
-      rest = hold-rest (bookRows book) (bytesRows s list (length l))
-
-      outcome : (a : Answer) → Answers rows done a → (a : Answer) × (exit : List ℕ) × BookPlanned book l a exit
-      outcome a f =
-          dite (ℕ-discrete (numberOf a) 0)
-          (λ z.
-          let e = bytes-exist (rest (zero-holds done (numberOf a) (placeOf a) rows (editor-numbered book (length l)) f z .0)) in
-          (a, e .0, record { answer = f; refused = λ n. absurd (n z); done = λ y. e .1 }))
-          (λ n. (a, l, record { answer = f; refused = λ m. refl; done = λ z. absurd (n z) }))
+      let bytes = bytesRows s list (length l) in
+      let answerable = answerable-join (bookRows book) bytes (book-answerable book) (bytes-answerable s list (length l)) in
+      let (a, exit, f, refused, done) =
+      outcome-exists (editorRows book (length l)) (Needed s list) l (BytesShown book l) editor-decided answerable
+      (editor-numbered book (length l)) (λ h. bytes-exist (hold-rest (bookRows book) bytes h))
+      (λ exit shown. (_, (shown .R, shown .repetitions, refl))) in
+      (a, exit, record { answer = f; refused = refused; done = done })

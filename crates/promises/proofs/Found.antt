@@ -1,14 +1,12 @@
 -- What an accepted call has found and shows: over words, and of a book in bytes.
 -- Assumes nothing.
-use mathlib.Core.Path.{_≡_, _∙_, sym, subst}
+use mathlib.Core.Path.{_≡_, _∙_, sym}
 use mathlib.Core.List.{List}
 use Prim.Native.Nat.{ℕ, _*_, _≤_}
 use lib.ListN.{length}
-use Rattle.laws.specs.Rows.{Row, Hold}
-use Rattle.laws.proofs.RowLaws.{Numbered, zero-holds, hold-front, hold-rest}
+use Rattle.laws.specs.Rows.{Hold}
+use Rattle.laws.proofs.RowLaws.{zero-holds, hold-front, hold-rest}
 use Rattle.terms.specs.declared.Settings.{Settings}
-use Rattle.terms.specs.declared.Answer.{Answer}
-use Rattle.terms.specs.Answers.{numberOf, placeOf, Answers}
 use Rattle.terms.specs.Requests.{Request, PlanRoom}
 use Rattle.terms.specs.Ranges.{SettingsInRange, SignalInRange}
 use Rattle.terms.specs.Lists.{CountInRange, count, EachSignal}
@@ -23,11 +21,11 @@ use Rattle.planner.specs.Rows.{Needed, signalRows, planningRows}
 use Rattle.planner.proofs.PlannedLaws.{needed-same}
 use Rattle.planner.proofs.Unique.{planning-numbered}
 use Rattle.editor.specs.Rows.{resultBytes, bytesRows, editorRows}
-use Rattle.editor.specs.Answered.{BookPlanned}
 use Rattle.editor.proofs.Unique.{editor-numbered}
-use Rattle.promises.specs.Calls.{Return, Tells, Plans}
+use Rattle.promises.specs.Calls.{WhereDone, Plans, PlansList, PlansBook}
 use Rattle.promises.specs.Shows.{overWords}
 use Rattle.promises.specs.Demand2.{Behind}
+use Rattle.promises.proofs.Demand1.{plan-1, list-plans, plan-book-1, book-plans}
 
 pub record FoundPlan (s : Settings) (list : List ℕ) (place : ℕ) (word : ℕ → ℕ) : Type 0 where
   pub settings : SettingsInRange s
@@ -41,29 +39,20 @@ pub record FoundPlan (s : Settings) (list : List ℕ) (place : ℕ) (word : ℕ 
   pub results : EachResult s list (filled list R) word
 
 -- the rows of the signals hold, and the words show the filling
-module _ (s : Settings) (list : List ℕ) (place : ℕ) (word : ℕ → ℕ) where
-  abbrev found : SettingsInRange s → CountInRange list → Hold (signalRows s list) → Needed s list place → (R : ℕ → ℕ) → Repetitions s list R
-      → EachResult s list (filled list R) word → FoundPlan s list place word
-  found settings whole (signals, (kept, (fits, u))) (Q, q, e) R r results =
-      record {
-        settings = settings;
-        whole = whole;
-        signals = signals;
-        kept = kept;
-        R = R;
-        rule = r;
-        fits = fits R r;
-        needs = e ∙ needed-same s list Q q R r;
-        results = results;
-      }
-
--- where the number of a return is 0, all rows of its answer hold, and its place is done
-pub told-holds : {Room : Type 0} (rows : List Row) (done : ℕ → Type 0) → Numbered rows → (a : Answer) (y : Return Room) → Tells a y
-    → Answers rows done a → y .number ≡ 0 → (numberOf a ≡ 0) × Hold rows × done (y .place)
-told-holds rows done k a y t f z =
-    let e = sym (t .0) ∙ z in
-    let h = zero-holds done (numberOf a) (placeOf a) rows k f e in
-    (e, h .0, subst done (sym (t .1)) (h .1))
+abbrev found : {s : Settings} {list : List ℕ} {place : ℕ} {word : ℕ → ℕ} → SettingsInRange s → CountInRange list → Hold (signalRows s list)
+    → Needed s list place → (R : ℕ → ℕ) → Repetitions s list R → EachResult s list (filled list R) word → FoundPlan s list place word
+found {s} {list} settings whole (signals, (kept, (fits, u))) (Q, q, e) R rule results =
+    record {
+      settings = settings;
+      whole = whole;
+      signals = signals;
+      kept = kept;
+      R = R;
+      rule = rule;
+      fits = fits R rule;
+      needs = e ∙ needed-same s list Q q R rule;
+      results = results;
+    }
 
 -- over words: the cells too, and what lies behind
 pub record WordsFound (x : Request) (l : PlanRoom) (place : ℕ) (exit : PlanRoom) : Type 0 where
@@ -71,35 +60,35 @@ pub record WordsFound (x : Request) (l : PlanRoom) (place : ℕ) (exit : PlanRoo
   pub cells : CellsShow (x .settings .slots) (filled (x .list) (found .R)) (l .cells) (exit .cells)
   pub behind : Behind (resultSize * count (x .list)) (l .results) (exit .results)
 
-pub words-found : (x : Request) (l : PlanRoom) (y : Return PlanRoom) → Plans x l y → y .number ≡ 0 → WordsFound x l (y .place) (y .lent)
+pub words-found : WhereDone Plans (λ x l y. WordsFound x l (y .place) (y .lent))
 words-found x l y (a, p, t) z =
-    let h = told-holds (planningRows x l) (Needed (x .settings) (x .list)) (planning-numbered x l) a y t (p .answer) z in
-    let shown = p .done (h .0) in
+    let (rows, needs) = zero-holds (Needed (x .settings) (x .list)) _ _ (planningRows x l) (planning-numbered x l) (plan-1 .numbered x l y (a, p, t)) z in
+    let shown = p .done (sym (t .0) ∙ z) in
     record {
-      found =
-          found (x .settings) (x .list) (y .place) (overWords .word (y .lent)) (h .1 .0) (h .1 .1 .0) (h .1 .1 .1 .1 .1) (h .2) (shown .R)
-          (shown .repetitions) (shown .results .shown);
+      found = found (rows .0) (rows .1 .0) (rows .1 .1 .1 .1) needs (shown .R) (shown .repetitions) (shown .results .shown);
       cells = shown .cells;
       behind = (shown .results .same-length, shown .results .later);
     }
+
+pub list-found : WhereDone PlansList (λ x l y. WordsFound x l (y .place) (y .lent))
+list-found x l y g = words-found x l y (list-plans x l y g)
 
 -- of a book
 pub record BookFound (book l : List ℕ) (place : ℕ) (exit : List ℕ) : Type 0 where
   pub found : FoundPlan (settingsIn book) (listIn book) place (wordAt exit)
   pub behind : Behind (resultBytes (listIn book)) l exit
 
-pub book-found : (book l : List ℕ) (y : Return (List ℕ)) (a : Answer) → BookPlanned book l a (y .lent) → Tells a y → y .number ≡ 0
-    → BookFound book l (y .place) (y .lent)
-book-found book l y a p t z =
-    let s = settingsIn book in
-    let list = listIn book in
-    let h = told-holds (editorRows book (length l)) (Needed s list) (editor-numbered book (length l)) a y t (p .answer) z in
-    let sound = hold-front (bookRows book) (bytesRows s list (length l)) (h .1) in
-    let asked = hold-rest (bookRows book) (bytesRows s list (length l)) (h .1) in
-    let shown = p .done (h .0) in
+pub book-found : WhereDone PlansBook (λ book l y. BookFound book l (y .place) (y .lent))
+book-found book l y g z =
+    let bytes = bytesRows (settingsIn book) (listIn book) (length l) in
+    let (rows, needs) =
+    zero-holds (Needed (settingsIn book) (listIn book)) _ _ (editorRows book (length l)) (editor-numbered book (length l))
+    (plan-book-1 .numbered book l y g) z in
+    let sound = hold-front (bookRows book) bytes rows in
+    let asked = hold-rest (bookRows book) bytes rows in
+    let (a, p, t) = book-plans book l y g in
+    let shown = p .done (sym (t .0) ∙ z) in
     record {
-      found =
-          found s list (y .place) (wordAt (y .lent)) (asked .0) (list-in-range book sound) (asked .1 .1) (h .2) (shown .R) (shown .repetitions)
-          (shown .results);
+      found = found (asked .0) (list-in-range book sound) (asked .1 .1) needs (shown .R) (shown .repetitions) (shown .results);
       behind = (shown .same-length, shown .later);
     }

@@ -16,7 +16,7 @@ use Rattle.terms.specs.declared.Settings.{Settings}
 use Rattle.terms.specs.declared.Signal.{Signal}
 use Rattle.terms.specs.Requests.{Request, PlanRoom}
 use Rattle.terms.specs.Answers.{roomRow}
-use Rattle.terms.specs.Ranges.{settingRows, SettingsInRange, LowestOutOfRange, settingRow, SignalInRange, Valid}
+use Rattle.terms.specs.Ranges.{settingRows, SettingsInRange, settingRow, SignalInRange, Valid}
 use Rattle.terms.specs.Lists.{count, countRow, signalAt, EachSignal}
 use Rattle.terms.specs.Results.{resultSize}
 use Rattle.rule.specs.Rule.{Keeps, segment, Largest, Kept, Repetitions}
@@ -60,21 +60,15 @@ kept-or-not s x v =
 module _ (s : Settings) (list : List ℕ) (settings : SettingsInRange s) where
   -- the repetitions of all signals, 1 where there is none
   pub repetitions-exist : EachSignal list (SignalInRange s) → (R : ℕ → ℕ) × Repetitions s list R
-  repetitions-exist signals = (R, R-is)
+  repetitions-exist signals = ((λ i. found i .0), λ i. found i .1)
     where
-      found : (i : ℕ) → Dec (Between 1 (count list) i) → ℕ
-      found i (yes b) = repetition-of s (signalAt list i) (record { settings = settings; signal = signals i b }) .0
-      found i (no n) = 1
-
-      R : ℕ → ℕ
-      R i = found i (Dec·and (decLe 1 i) (decLe i (count list)))
-
-      found-is : (i : ℕ) (d : Dec (Between 1 (count list) i)) → Between 1 (count list) i → Largest (Keeps s (signalAt list i) (segment s)) (found i d)
-      found-is i (yes b) c = repetition-of s (signalAt list i) (record { settings = settings; signal = signals i b }) .1
-      found-is i (no n) c = absurd (n c)
-
-      R-is : Repetitions s list R
-      R-is i b = found-is i (Dec·and (decLe 1 i) (decLe i (count list))) b
+      found : (i : ℕ) → (r : ℕ) × (Between 1 (count list) i → Largest (Keeps s (signalAt list i) (segment s)) r)
+      found i =
+          dite (Dec·and (decLe 1 i) (decLe i (count list)))
+          (λ b.
+          let r = repetition-of s (signalAt list i) (record { settings = settings; signal = signals i b }) in
+          (r .0, λ c. r .1))
+          (λ n. (1, λ b. absurd (n b)))
 
   -- 7, 8 and 9
   pub signals-decided : Decided (signalRows s list)
@@ -83,21 +77,16 @@ module _ (s : Settings) (list : List ℕ) (settings : SettingsInRange s) where
       (λ i b. signal-or-not s (signalAt list i)) (λ signals.
       asked-each 8 (count list) (λ i. Kept s (signalAt list i)) (slotsRow s list ∷ [])
       (λ i b. kept-or-not s (signalAt list i) (record { settings = settings; signal = signals i b })) (λ kept.
-      let r = repetitions-exist signals in
-      asked (slotsRow s list) [] (slots-or-not (r .0) (r .1)) (needed list (r .0), (r .0, r .1, refl)) (λ h. tt)))
-    where
-      slots-or-not : (R : ℕ → ℕ) → Repetitions s list R → Dec ((Q : ℕ → ℕ) → Repetitions s list Q → needed list Q ≤ s .slots)
-      slots-or-not R r =
-          map-dec (λ h Q q. omega (arith, h, needed-same s list Q q R r)) (λ all. all R r) (decLe (needed list R) (s .slots))
-
--- the lowest setting word out of range, or 0
-lowest-setting : (s : Settings) → (w : ℕ) × LowestOutOfRange s w
-lowest-setting s =
-    let r = first-row (settingRows s) (λ p. p ≡ 0) (settings-decided s) (λ h. (0, refl)) in (r .1, (r .0, r .2))
+      let (R, r) = repetitions-exist signals in
+      asked (slotsRow s list) []
+      (map-dec (λ h Q q. omega (arith, h, needed-same s list Q q R r)) (λ all. all R r) (decLe (needed list R) (s .slots)))
+      (needed list R, (R, r, refl)) (λ h. tt)))
 
 -- 6, and what is asked where it is not given
 pub after-settings : (s : Settings) (rest : List Row) → (SettingsInRange s → Decided rest) → Decided (settingRow s ∷ rest)
-after-settings s rest = asked (settingRow s) rest (settings-or-not s) (lowest-setting s)
+after-settings s rest =
+    let (n, w, lowest) = first-row (settingRows s) (λ p. p ≡ 0) (settings-decided s) (λ h. (0, refl)) in
+    asked (settingRow s) rest (settings-or-not s) (w, (n, lowest))
 
 -- 10
 pub after-room : (needs lent : ℕ) (rest : List Row) → Decided rest → Decided (roomRow needs lent ∷ rest)

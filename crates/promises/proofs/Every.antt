@@ -39,17 +39,16 @@ signals-answerable : (s : Settings) (list : List ℕ) → Answerable (signalRows
 signals-answerable s list =
     ((λ p l. (Field p, refl, refl)), ((λ p l. (Bound p, refl, refl)), ((λ p l. (Slots p, refl, refl)), tt)))
 
+room-answer : {needs : ℕ} (p : ℕ) → p ≡ needs → (a : Answer) × (numberOf a ≡ 10) × (placeOf a ≡ p)
+room-answer p e = (Room p, refl, refl)
+
 planning-answerable : (x : Request) (l : PlanRoom) → Answerable (planningRows x l)
-planning-answerable x l = (
-  (λ p w. (Setting p, refl, refl)),
-  (
-    (λ p e. (Count, refl, sym e)),
-    ((λ p e. (Room p, refl, refl)), ((λ p e. (Room p, refl, refl)), signals-answerable (x .settings) (x .list))),
-  ),
-)
+planning-answerable x l =
+    let signals = signals-answerable (x .settings) (x .list) in
+    ((λ p w. (Setting p, refl, refl)), ((λ p e. (Count, refl, sym e)), (room-answer, (room-answer, signals))))
 
 bytes-answerable : (s : Settings) (list : List ℕ) (lent : ℕ) → Answerable (bytesRows s list lent)
-bytes-answerable s list lent = ((λ p w. (Setting p, refl, refl)), ((λ p e. (Room p, refl, refl)), signals-answerable s list))
+bytes-answerable s list lent = ((λ p w. (Setting p, refl, refl)), (room-answer, signals-answerable s list))
 
 -- ---- an outcome for every input
 

@@ -19,47 +19,40 @@ use Rattle.filling.proofs.FilledLaws.{filled-own, filled-some}
 use Rattle.promises.specs.Demand2.{TableShown}
 use Rattle.promises.proofs.Clock.{starts-shown}
 
-module _
-    (s : Settings)
-    (list : List ℕ)
-    (R : ℕ → ℕ)
-    (entry exit : List ℕ)
-    (cells : CellsShow (s .slots) (filled list R) entry exit)
-    (frame : ℕ → Frame)
-    (frames : EachTo (count list) (λ i. FrameInRange (s .slots) (frame i)))
-    (shows : (p : Placed) → List·Memᴰ p (filled list R) → frame (p .signal) ≡ p .frame)
-  where
-    -- a frame's own cells show its signal
-    cell-shown : (k c i : ℕ) → c < 64 → Between 1 (count list) i → Sends (frame i) k c → cellOf exit k c ≡ i
-    cell-shown k c i l b sends =
-        let r = filled-some list R i b in
-        let p = r .0 in
-        let own = subst (λ (j : ℕ). Sends (frame j) k c) (sym (r .2)) sends in
-        cells .holds p k c (r .1) l (subst (λ (f : Frame). Sends f k c) (shows p (r .1)) own) ∙ r .2
+module _ (s : Settings) (list : List ℕ) (R : ℕ → ℕ) (entry exit : List ℕ) (cells : CellsShow (s .slots) (filled list R) entry exit)
+    (frame : ℕ → Frame) (frames : EachTo (count list) (λ i. FrameInRange (s .slots) (frame i)))
+    (shows : (p : Placed) → List·Memᴰ p (filled list R) → frame (p .signal) ≡ p .frame) where
+  -- a frame's own cells show its signal
+  cell-shown : (k c i : ℕ) → c < 64 → Between 1 (count list) i → Sends (frame i) k c → cellOf exit k c ≡ i
+  cell-shown k c i l b sends =
+      let r = filled-some list R i b in
+      let p = r .0 in
+      let own = subst (λ (j : ℕ). Sends (frame j) k c) (sym (r .2)) sends in
+      cells .holds p k c (r .1) l (subst (λ (f : Frame). Sends f k c) (shows p (r .1)) own) ∙ r .2
 
-    place-sends : (k c : ℕ) (p : Placed) → List·Memᴰ p (filled list R) → Sends (p .frame) k c → Sends (frame (p .signal)) k c
-    place-sends k c p m = subst (λ (f : Frame). Sends f k c) (sym (shows p m))
+  place-sends : (k c : ℕ) (p : Placed) → List·Memᴰ p (filled list R) → Sends (p .frame) k c → Sends (frame (p .signal)) k c
+  place-sends k c p m = subst (λ (f : Frame). Sends f k c) (sym (shows p m))
 
-    -- a cell that shows a signal is its frame's: if it were not, no frame would have it, and it would be 0
-    shown-sends : (k c i : ℕ) → Between 1 (s .slots) k → c < 64 → Between 1 (count list) i → cellOf exit k c ≡ i → Sends (frame i) k c
-    shown-sends k c i b l at e = dite (sends-or-not (frame i) (frames i at) k c) (λ sends. sends) (λ n. absurd (not-none n))
-      where
-        not-none : (Sends (frame i) k c → ⊥) → ⊥
-        not-none n =
-            let none : (p : Placed) → List·Memᴰ p (filled list R) → Sends (p .frame) k c → ⊥ =
-            λ p m t.
-            let sends = place-sends k c p m t in
-            let same : p .signal ≡ i = sym (cell-shown k c (p .signal) l (filled-own list R p m .0) sends) ∙ e in
-            n (subst (λ (j : ℕ). Sends (frame j) k c) same sends) in
-            omega (arith, cells .empty k c b l none, e, at .0)
+  -- a cell that shows a signal is its frame's: if it were not, no frame would have it, and it would be 0
+  shown-sends : (k c i : ℕ) → Between 1 (s .slots) k → c < 64 → Between 1 (count list) i → cellOf exit k c ≡ i → Sends (frame i) k c
+  shown-sends k c i b l at e = dite (sends-or-not (frame i) (frames i at) k c) (λ sends. sends) (λ n. absurd (not-none n))
+    where
+      not-none : (Sends (frame i) k c → ⊥) → ⊥
+      not-none n =
+          let none : (p : Placed) → List·Memᴰ p (filled list R) → Sends (p .frame) k c → ⊥ =
+          λ p m t.
+          let sends = place-sends k c p m t in
+          let same : p .signal ≡ i = sym (cell-shown k c (p .signal) l (filled-own list R p m .0) sends) ∙ e in
+          n (subst (λ (j : ℕ). Sends (frame j) k c) same sends) in
+          omega (arith, cells .empty k c b l none, e, at .0)
 
-    pub table-shown : TableShown s (count list) frame exit
-    table-shown =
-        record {
-          shown = λ k c i b l at. (shown-sends k c i b l at, cell-shown k c i l at);
-          empty = λ k c b l. (
-            (λ z i at sends. omega (arith, cell-shown k c i l at sends, z, at .0)),
-            λ none. cells .empty k c b l (λ p m t. none (p .signal) (filled-own list R p m .0) (place-sends k c p m t)),
-          );
-          clock = starts-shown s (count list) frame exit frames (λ k c i b l at. (shown-sends k c i b l at, cell-shown k c i l at));
-        }
+  pub table-shown : TableShown s (count list) frame exit
+  table-shown =
+      record {
+        shown = λ k c i b l at. (shown-sends k c i b l at, cell-shown k c i l at);
+        empty = λ k c b l. (
+          (λ z i at sends. omega (arith, cell-shown k c i l at sends, z, at .0)),
+          λ none. cells .empty k c b l (λ p m t. none (p .signal) (filled-own list R p m .0) (place-sends k c p m t)),
+        );
+        clock = starts-shown s (count list) frame exit frames (λ k c i b l at. (shown-sends k c i b l at, cell-shown k c i l at));
+      }

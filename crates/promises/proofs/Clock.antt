@@ -1,7 +1,7 @@
 -- Table and clock are one: the starts of a frame are the cycles that its base and repetition name, the 64 cycles of a table
 -- coming again for ever.
 -- Assumes nothing.
-use mathlib.Core.Path.{_≡_, refl, _∙_, ap}
+use mathlib.Core.Path.{_≡_, refl, _∙_, sym, ap}
 use mathlib.Core.List.{List}
 use mathlib.Core.Logic.{_↔_}
 use Prim.Native.Nat.{ℕ, _+_, _*_, _-_, _/_, _%_, _<_}
@@ -15,7 +15,7 @@ use Rattle.laws.specs.Lowest.{Between}
 use Rattle.terms.specs.Ranges.{Repetition, FrameInRange}
 use Rattle.terms.proofs.RepetitionLaws.{repetition-most, repetition-multiple}
 use Rattle.age.specs.Age.{Start, firstStart, spanOf}
-use Rattle.cycles.proofs.FrameLaws.{remainder-named}
+use Rattle.cycles.proofs.FrameLaws.{named-remainder, remainder-named}
 use Rattle.cycles.specs.Frames.{Sends}
 use Rattle.filling.specs.Shown.{cellOf}
 use Rattle.promises.specs.Demand2.{StartsAt}
@@ -26,25 +26,26 @@ same-cycle R n r =
     let q = repetition-multiple R 64 r (6, lit≤ tt, refl) (repetition-most R r) in
     same-remainder R (n % 64) n (n / 64 * q .0, 0, omega (arith, mod-add-div' n 64, ap (λ (z : ℕ). n / 64 * z) (q .1)))
 
+-- a frame goes out in the cycle of its base, which is one of the 64
+pub base-sent : {n : ℕ} {f : Frame} → FrameInRange n f → (f .base < 64) × Sends f (f .slot) (f .base)
+base-sent {n} {f} h = (
+  omega (arith, h .base, repetition-most (f .repetition) (h .repetition)),
+  (refl, record { repetition = h .repetition; base = h .base; again = (0, omega arith) }),
+)
+
 module _ (s : Settings) (f : Frame) (h : FrameInRange (s .slots) f) where
   pub starts-named : (t : ℕ) → Start (firstStart s f) (spanOf s f) t ↔ StartsAt s (Sends f) t
-  starts-named t = (
-    (λ start.
-        let n = f .base + start .0 * f .repetition in
-        let left = same-cycle (f .repetition) n (h .repetition) ∙ splits-remainder (f .repetition) (f .base) (start .0) (h .base) in
-        (n, f .slot, (refl, remainder-named (h .repetition) (h .base) left), omega (arith, start .1))),
-    named,
-  )
-    where
-      named : StartsAt s (Sends f) t → Start (firstStart s f) (spanOf s f) t
-      named (n, k, (slot, names), e) =
-          let R = f .repetition in
-          let q = repetition-multiple R 64 (h .repetition) (6, lit≤ tt, refl) (repetition-most R (h .repetition)) in
-          let whole : n ≡ f .base + (names .again .0 + n / 64 * q .0) * R =
-          omega (arith, names .again .1, mod-add-div' n 64, ap (λ (z : ℕ). n / 64 * z) (q .1)) in (
-            names .again .0 + n / 64 * q .0,
-            omega (arith, e, ap (λ (z : ℕ). z * s .cycle) whole, ap (λ (z : ℕ). (z - 1) * s .slot) slot),
-          )
+  starts-named t =
+      let R = f .repetition in (
+        (λ start.
+            let n = f .base + start .0 * R in
+            let left = same-cycle R n (h .repetition) ∙ splits-remainder R (f .base) (start .0) (h .base) in
+            (n, f .slot, (refl, remainder-named (h .repetition) (h .base) left), omega (arith, start .1))),
+        λ (n, k, (slot, names), e).
+            let left = sym (same-cycle R n (h .repetition)) ∙ named-remainder names in
+            let whole : n ≡ f .base + n / R * R = omega (arith, left, mod-add-div' n R) in
+            (n / R, omega (arith, e, ap (λ (z : ℕ). z * s .cycle) whole, ap (λ (z : ℕ). (z - 1) * s .slot) slot)),
+      )
 
 -- so where cells show the frames of m signals, their starts are the cells that show them
 module _ (s : Settings) (m : ℕ) (frame : ℕ → Frame) (cells : List ℕ) (frames : (i : ℕ) → Between 1 m i → FrameInRange (s .slots) (frame i))

@@ -16,11 +16,10 @@ use Rattle.terms.specs.declared.Settings.{Settings}
 use Rattle.terms.specs.Lists.{signalSize, count, signalAt, groupOf}
 use Rattle.terms.specs.Answers.{roomRow}
 use Rattle.terms.specs.Requests.{Request, PlanRoom}
-use Rattle.terms.proofs.RepetitionLaws.{repetition-most}
 use Rattle.age.specs.Age.{Age, firstStart, spanOf}
 use Rattle.age.proofs.AgeLaws.{age-unique}
 use Rattle.age.proofs.AgeTests.{age-test}
-use Rattle.cycles.specs.Frames.{Names, Sends}
+use Rattle.cycles.specs.Frames.{Names}
 use Rattle.filling.specs.Shown.{cellOf}
 use Rattle.filling.specs.Drawn.{slotsUsed, FillingShown}
 use Rattle.book.specs.Words.{AllBelow, wordAt}
@@ -37,6 +36,7 @@ use Rattle.terms.specs.Results.{resultSize}
 use Rattle.promises.proofs.Inputs.{settings, asked, fresh, half, case1, twice, single, pair, blank, words}
 use Rattle.promises.proofs.Inputs.{sixty-four, slot-two, often, invented, spread, colliding, case1-book, pair-book, exchanged}
 use Rattle.promises.proofs.Named.{half-gets, every, slot1, case1-table, case1-count, case1-ready, case1-holds, pair-holds}
+use Rattle.promises.proofs.Clock.{base-sent}
 use Rattle.promises.proofs.FillingExamples.{lowest-slot-no}
 
 module _ (Gives : Routine Request PlanRoom) where
@@ -49,9 +49,7 @@ module _ (Gives : Routine Request PlanRoom) where
     shown-somewhere x g i b =
         let f = frameOf (overWords .word (y .lent)) i in
         let h = keeps .ages x l y g z i b .frame in
-        let c : f .base < 64 = omega (arith, h .base, repetition-most (f .repetition) (h .repetition)) in
-        let sends : Sends f (f .slot) (f .base) =
-        (refl, record { repetition = h .repetition; base = h .base; again = (0, omega arith) }) in
+        let (c, sends) = base-sent h in
         (f .slot, f .base, h .slot, c, keeps .table x l y g z .shown (f .slot) (f .base) i (h .slot) c b .1 sends)
 
     -- one plan for all: case 1 and the empty list cannot have the same table

@@ -14,10 +14,8 @@ use lib.WfN.{Nat·lt-wfRel}
 use Rattle.laws.specs.Lowest.{Between, EachTo}
 use Rattle.terms.specs.declared.Settings.{Settings}
 use Rattle.terms.specs.declared.Frame.{Frame}
-use Rattle.terms.specs.Ranges.{FrameInRange}
 use Rattle.terms.specs.Lists.{count, signalAt, groupOf}
 use Rattle.terms.specs.Results.{resultSize, resultStart, resultAt}
-use Rattle.terms.proofs.RepetitionLaws.{repetition-most}
 use Rattle.terms.proofs.ResultsLaws.{same-words}
 use Rattle.age.specs.Age.{firstStart, spanOf, Age}
 use Rattle.age.proofs.AgeLaws.{age-unique}
@@ -28,6 +26,7 @@ use Rattle.planner.proofs.PlannedLaws.{repetitions-same}
 use Rattle.promises.specs.Shows.{frameOf, ageOf}
 use Rattle.promises.specs.Demand2.{AgeShown, TableShown}
 use Rattle.promises.specs.Demand3.{AcceptedPlan}
+use Rattle.promises.proofs.Clock.{base-sent}
 
 -- ---- induction along an order
 
@@ -56,10 +55,6 @@ by-first f Goes inducts P step i =
 
 -- ---- one frame of each signal
 
--- a frame goes out in the cycle of its base
-base-sent : {slots : ℕ} {f : Frame} → FrameInRange slots f → {k : ℕ} → f .slot ≡ k → Sends f k (f .base)
-base-sent h e = (e, record { repetition = h .repetition; base = h .base; again = (0, omega arith) })
-
 module _ (slots m : ℕ) (group : ℕ → ℕ) where
   abbrev Own : ℕ → Type 0
   Own = Between 1 m
@@ -85,97 +80,77 @@ module _ (slots m : ℕ) (group : ℕ → ℕ) where
     not-itself i j e (u, h) = ⊎-elim (λ l. omega (arith, ap (λ (n : ℕ). frame n .repetition) e)) (λ l. omega arith) h
 
   -- two plans, in either role, that are the same as far as the frames before signal i
-  module _
-      (frame frame′ : ℕ → Frame)
-      (a : FilledPlan frame)
-      (a′ : FilledPlan frame′)
-      (i : ℕ)
-      (own : Own i)
-      (before : (j : ℕ) → Own j → Earlier frame′ j i → frame j ≡ frame′ j)
-    where
-      in-range : FrameInRange slots (frame i)
-      in-range = a .drawn .frames i own
+  module _ (frame frame′ : ℕ → Frame) (a : FilledPlan frame) (a′ : FilledPlan frame′) (i : ℕ) (own : Own i)
+      (before : (j : ℕ) → Own j → Earlier frame′ j i → frame j ≡ frame′ j) where
+    cell : (frame i .base < 64) × Sends (frame i) (frame i .slot) (frame i .base)
+    cell = base-sent (a .drawn .frames i own)
 
-      cycle : frame i .base < 64
-      cycle = omega (arith, in-range .base, repetition-most (frame i .repetition) (in-range .repetition))
+    -- a frame that goes before i in the second is not in i's cell in the first
+    not-both : (j k : ℕ) → Own j → Before group frame′ j i → frame i .slot ≡ k → Sends (frame′ j) k (frame i .base)
+        → ⊥
+    not-both j k at b e sends =
+        let also = subst (λ (f : Frame). Sends f k (frame i .base)) (sym (before j at (inr b))) sends in
+        not-itself frame′ j i (a .drawn .apart j i k (frame i .base) at own (cell .0) also (e, cell .1 .1)) b
 
-      -- a frame that goes before i in the second is not in i's cell in the first
-      not-both : (j k : ℕ) → Own j → Before group frame′ j i → frame i .slot ≡ k → Sends (frame′ j) k (frame i .base)
-          → ⊥
-      not-both j k at b e sends =
-          let also = subst (λ (f : Frame). Sends f k (frame i .base)) (sym (before j at (inr b))) sends in
-          not-itself frame′ j i (a .drawn .apart j i k (frame i .base) at own cycle also (base-sent in-range e)) b
+    -- in the second, a frame of i's unit in a lower slot goes before i: `onward`
+    lower-before : (j : ℕ) → Own j → frame′ j .slot < frame′ i .slot → group j ≡ group i → Before group frame′ j i
+    lower-before j at l e =
+        ⊎-elim (λ b. b) (λ b. absurd (omega (arith, a′ .filling .onward i j own at b)))
+        (first-of frame′ j i e (λ z. omega (arith, ap (λ (n : ℕ). frame′ n .slot) z)))
 
-      -- in the second, a frame of i's unit in a lower slot goes before i: `onward`
-      lower-before : (j : ℕ) → Own j → frame′ j .slot < frame′ i .slot → group j ≡ group i → Before group frame′ j i
-      lower-before j at l e =
-          ⊎-elim (λ b. b) (λ b. absurd (omega (arith, a′ .filling .onward i j own at b)))
-          (first-of frame′ j i e (λ z. omega (arith, ap (λ (n : ℕ). frame′ n .slot) z)))
+    -- a lower slot is in use in the second: `lowest`; by a frame of i's unit: `units`; so all its cycles are taken
+    -- before i: `full`
+    no-lower-slot : frame i .slot < frame′ i .slot → ⊥
+    no-lower-slot l = used (a′ .filling .lowest i (frame i .slot) own (a .drawn .frames i own .slot .0, omega arith))
+      where
+        taken : (j : ℕ) → Own j → frame′ j .slot ≡ frame i .slot → group j ≡ group i → ⊥
+        taken j at e u =
+            let (n, here, sends) =
+            a′ .filling .full j i (frame i .base) at own (lower-before j at (omega arith) u) (omega arith) (cell .0) in
+            let of-unit = a′ .drawn .one-group n j here at (sends .0) ∙ u in
+            not-both n (frame′ j .slot) here (lower-before n here (omega (arith, sends .0)) of-unit) (sym e) sends
 
-      -- a lower slot is in use in the second: `lowest`; by a frame of i's unit: `units`; so all its cycles are taken
-      -- before i: `full`
-      no-lower-slot : frame i .slot < frame′ i .slot → ⊥
-      no-lower-slot l = used (a′ .filling .lowest i (frame i .slot) own (in-range .slot .0, omega arith))
-        where
-          taken : (j : ℕ) → Own j → frame′ j .slot ≡ frame i .slot → group j ≡ group i → ⊥
-          taken j at e u =
-              let (n, here, sends) =
-              a′ .filling .full j i (frame i .base) at own (lower-before j at (omega arith) u) (omega arith) cycle in
-              let of-unit = a′ .drawn .one-group n j here at (sends .0) ∙ u in
-              not-both n (frame′ j .slot) here (lower-before n here (omega (arith, sends .0)) of-unit) (sym e) sends
+        used : (j : ℕ) × Own j × (frame′ j .slot ≡ frame i .slot) → ⊥
+        used (j, at, e) =
+            compare (group j) (group i)
+            (λ u. omega (arith, a .filling .units j i at own u, ap (λ (f : Frame). f .slot) (before j at (inl u))))
+            (taken j at e) (λ u. omega (arith, a′ .filling .units i j own at u))
 
-          used : (j : ℕ) × Own j × (frame′ j .slot ≡ frame i .slot) → ⊥
-          used (j, at, e) =
-              compare (group j) (group i)
-              (λ u. omega (arith, a .filling .units j i at own u, ap (λ (f : Frame). f .slot) (before j at (inl u))))
-              (taken j at e) (λ u. omega (arith, a′ .filling .units i j own at u))
+    -- a cycle below is taken before i in the second: `first-free`
+    no-lower-base : frame i .slot ≡ frame′ i .slot → frame i .base < frame′ i .base → ⊥
+    no-lower-base e l =
+        let (j, at, b, sends) = a′ .filling .first-free i (frame i .base) own l in
+        not-both j (frame′ i .slot) at b e sends
 
-      -- a cycle below is taken before i in the second: `first-free`
-      no-lower-base : frame i .slot ≡ frame′ i .slot → frame i .base < frame′ i .base → ⊥
-      no-lower-base e l =
-          let (j, at, b, sends) = a′ .filling .first-free i (frame i .base) own l in
-          not-both j (frame′ i .slot) at b e sends
+  module _ (frame frame′ : ℕ → Frame) (a : FilledPlan frame) (a′ : FilledPlan frame′)
+      (same-repetition : EachTo m (λ i. frame i .repetition ≡ frame′ i .repetition)) where
+    same-order : (i j : ℕ) → Own i → Own j → Earlier frame′ i j → Earlier frame i j
+    same-order i j b c (inl l) = inl l
+    same-order i j b c (inr (u, inl l)) = inr (u, inl (omega (arith, same-repetition i b, same-repetition j c)))
+    same-order i j b c (inr (u, inr (e, l))) = inr (u, inr (same-repetition i b ∙ e ∙ sym (same-repetition j c), l))
 
-  module _
-      (frame frame′ : ℕ → Frame)
-      (a : FilledPlan frame)
-      (a′ : FilledPlan frame′)
-      (same-repetition : EachTo m (λ i. frame i .repetition ≡ frame′ i .repetition))
-    where
-      same-order : (i j : ℕ) → Own i → Own j → Earlier frame′ i j → Earlier frame i j
-      same-order i j b c (inl l) = inl l
-      same-order i j b c (inr (u, inl l)) = inr (u, inl (omega (arith, same-repetition i b, same-repetition j c)))
-      same-order i j b c (inr (u, inr (e, l))) = inr (u, inr (same-repetition i b ∙ e ∙ sym (same-repetition j c), l))
+    next-same : (i : ℕ) → Own i → ((j : ℕ) → Own j → Earlier frame j i → frame j ≡ frame′ j) → frame i ≡ frame′ i
+    next-same i own before =
+        let there : (j : ℕ) → Own j → Earlier frame′ j i → frame j ≡ frame′ j =
+        λ j at h. before j at (same-order j i at own h) in
+        let back : (j : ℕ) → Own j → Earlier frame j i → frame′ j ≡ frame j = λ j at h. sym (before j at h) in
+        let slot : frame i .slot ≡ frame′ i .slot =
+        omega (arith, no-lower-slot frame frame′ a a′ i own there, no-lower-slot frame′ frame a′ a i own back) in
+        let base : frame i .base ≡ frame′ i .base =
+        omega (arith, no-lower-base frame frame′ a a′ i own there slot, no-lower-base frame′ frame a′ a i own back (sym slot)) in
+        λ k. record { slot = slot k; base = base k; repetition = same-repetition i own k }
 
-      next-same : (i : ℕ) → Own i → ((j : ℕ) → Own j → Earlier frame j i → frame j ≡ frame′ j) → frame i ≡ frame′ i
-      next-same i own before =
-          let there : (j : ℕ) → Own j → Earlier frame′ j i → frame j ≡ frame′ j =
-          λ j at h. before j at (same-order j i at own h) in
-          let back : (j : ℕ) → Own j → Earlier frame j i → frame′ j ≡ frame j = λ j at h. sym (before j at h) in
-          let slot : frame i .slot ≡ frame′ i .slot =
-          equal (no-lower-slot frame frame′ a a′ i own there) (no-lower-slot frame′ frame a′ a i own back) in
-          let base : frame i .base ≡ frame′ i .base =
-          equal (no-lower-base frame frame′ a a′ i own there slot)
-          (no-lower-base frame′ frame a′ a i own back (sym slot)) in
-          λ k. record { slot = slot k; base = base k; repetition = same-repetition i own k }
-        where
-          equal : {m n : ℕ} → (m < n → ⊥) → (n < m → ⊥) → m ≡ n
-          equal {m} {n} p q = compare m n (λ l. absurd (p l)) (λ e. e) (λ l. absurd (q l))
+    -- the order of filling: by unit, by repetition, by place in the list
+    all-same : EachTo m (λ i. frame i ≡ frame′ i)
+    all-same =
+        let R : ℕ → ℕ = λ i. frame i .repetition in
+        by-first group (ByFirst R _<_) (by-first R _<_ by-number) (λ i. Own i → frame i ≡ frame′ i)
+        (λ i sooner own. next-same i own (λ j at h. sooner j h at))
 
-      -- the order of filling: by unit, by repetition, by place in the list
-      all-same : EachTo m (λ i. frame i ≡ frame′ i)
-      all-same =
-          let R : ℕ → ℕ = λ i. frame i .repetition in
-          by-first group (ByFirst R _<_) (by-first R _<_ by-number) (λ i. Own i → frame i ≡ frame′ i)
-          (λ i sooner own. next-same i own (λ j at h. sooner j h at))
-
-pub one-filling :
-    (s : Settings) (list : List ℕ) (p q : ℕ) (frame frame′ : ℕ → Frame) (age age′ : ℕ → ℕ) →
-    AcceptedPlan s list p frame age →
-    AcceptedPlan s list q frame′ age′ →
-    FillingShown (count list) (groupOf list) frame →
-    FillingShown (count list) (groupOf list) frame′ →
-    EachTo (count list) (λ i. frame i ≡ frame′ i)
+pub one-filling : (s : Settings) (list : List ℕ) (p q : ℕ) (frame frame′ : ℕ → Frame) (age age′ : ℕ → ℕ)
+    → AcceptedPlan s list p frame age → AcceptedPlan s list q frame′ age′
+    → FillingShown (count list) (groupOf list) frame → FillingShown (count list) (groupOf list) frame′
+    → EachTo (count list) (λ i. frame i ≡ frame′ i)
 one-filling s list p q frame frame′ age age′ a a′ f f′ =
     all-same (s .slots) (count list) (groupOf list) frame frame′ (record { drawn = a .table .drawn; filling = f })
     (record { drawn = a′ .table .drawn; filling = f′ })
@@ -189,68 +164,49 @@ pub record ShownPlan (s : Settings) (list : List ℕ) (place : ℕ) (word : ℕ 
   pub filling : FillingShown (count list) (groupOf list) (frameOf word)
   pub ages : EachTo (count list) (λ i. AgeShown s (signalAt list i) (resultAt word i))
 
-module _
-    {s : Settings}
-    {list : List ℕ}
-    {p p′ : ℕ}
-    {word word′ : ℕ → ℕ}
-    (a : ShownPlan s list p word)
-    (a′ : ShownPlan s list p′ word′)
-  where
-    -- each uses the fewest slots of any
-    pub one-place : p ≡ p′
-    one-place =
-        let here = a .accepted in
-        let there = a′ .accepted in
-        let least = here .fewest (frameOf word′) (there .table) in
-        let least′ = there .fewest (frameOf word) (here .table) in
-        omega (arith, here .used, there .used, least, least′)
+module _ {s : Settings} {list : List ℕ} {p p′ : ℕ} {word word′ : ℕ → ℕ} (a : ShownPlan s list p word) (a′ : ShownPlan s list p′ word′) where
+  -- each uses the fewest slots of any
+  pub one-place : p ≡ p′
+  one-place =
+      let here = a .accepted in
+      let there = a′ .accepted in
+      omega (arith, here .used, there .used, here .fewest _ (there .table), there .fewest _ (here .table))
 
-    pub one-frame : EachTo (count list) (λ i. frameOf word i ≡ frameOf word′ i)
-    one-frame = one-filling s list p p′ _ _ _ _ (a .accepted) (a′ .accepted) (a .filling) (a′ .filling)
+  pub one-frame : EachTo (count list) (λ i. frameOf word i ≡ frameOf word′ i)
+  one-frame = one-filling s list p p′ _ _ _ _ (a .accepted) (a′ .accepted) (a .filling) (a′ .filling)
 
-    one-result : EachTo (count list) (λ i. resultAt word i ≡ resultAt word′ i)
-    one-result i b =
-        let f = frameOf word′ i in
-        let x = signalAt list i in
-        let age =
-        age-unique (firstStart s f) (spanOf s f) (s .packing) (s .slot) (x .offset) (x .period) _ _
-        (subst (λ (g : Frame). Age s x g (ageOf word i)) (one-frame i b) (a .ages i b .is-age)) (a′ .ages i b .is-age) in
-        λ k. record { frame = one-frame i b k; age = age k }
+  one-result : EachTo (count list) (λ i. resultAt word i ≡ resultAt word′ i)
+  one-result i b =
+      let f = frameOf word′ i in
+      let x = signalAt list i in
+      let age =
+      age-unique (firstStart s f) (spanOf s f) (s .packing) (s .slot) (x .offset) (x .period) _ _
+      (subst (λ (g : Frame). Age s x g (ageOf word i)) (one-frame i b) (a .ages i b .is-age)) (a′ .ages i b .is-age) in
+      λ k. record { frame = one-frame i b k; age = age k }
 
-    pub one-words : (j : ℕ) → j < resultSize * count list → word j ≡ word′ j
-    one-words j l =
-        let i = 1 + j / resultSize in
-        let at : resultStart i + j % resultSize ≡ j = omega arith in
-        subst (λ (n : ℕ). word n ≡ word′ n) at
-        (same-words (λ d. word (resultStart i + d)) (λ d. word′ (resultStart i + d)) (one-result i (omega arith))
-        (j % resultSize) (omega arith))
+  pub one-words : (j : ℕ) → j < resultSize * count list → word j ≡ word′ j
+  one-words j l =
+      let i = 1 + j / resultSize in
+      let at : resultStart i + j % resultSize ≡ j = omega arith in
+      subst (λ (n : ℕ). word n ≡ word′ n) at
+      (same-words (λ d. word (resultStart i + d)) (λ d. word′ (resultStart i + d)) (one-result i (omega arith))
+      (j % resultSize) (omega arith))
 
 -- ---- one table of cells
 
-module _
-    (s : Settings)
-    (m : ℕ)
-    {frame frame′ : ℕ → Frame}
-    {cells cells′ : List ℕ}
-    (same : EachTo m (λ i. frame i ≡ frame′ i))
-    (t : TableShown s m frame cells)
-    (t′ : TableShown s m frame′ cells′)
-  where
-    -- if a cell were not the same in both, no frame would have it, and it would be 0 in both
-    one-cell : (k c : ℕ) → Between 1 (s .slots) k → c < 64 → cellOf cells k c ≡ cellOf cells′ k c
-    one-cell k c b l =
-        dite (ℕ-discrete (cellOf cells k c) (cellOf cells′ k c)) (λ e. e)
-        (λ n.
-        let none : (i : ℕ) → Between 1 m i → Sends (frame i) k c → ⊥ =
-        λ i at h. n (t .shown k c i b l at .1 h ∙ sym (t′ .shown k c i b l at .1 (subst At (same i at) h))) in
-        t .empty k c b l .1 none ∙ sym (t′ .empty k c b l .1 (λ i at h. none i at (subst At (sym (same i at)) h))))
-      where
-        At : Frame → Type 0
-        At f = Sends f k c
+module _ (s : Settings) (m : ℕ) {frame frame′ : ℕ → Frame} {cells cells′ : List ℕ} (same : EachTo m (λ i. frame i ≡ frame′ i))
+    (t : TableShown s m frame cells) (t′ : TableShown s m frame′ cells′) where
+  -- if a cell were not the same in both, no frame would have it, and it would be 0 in both
+  one-cell : (k c : ℕ) → Between 1 (s .slots) k → c < 64 → cellOf cells k c ≡ cellOf cells′ k c
+  one-cell k c b l =
+      dite (ℕ-discrete (cellOf cells k c) (cellOf cells′ k c)) (λ e. e)
+      (λ n.
+      let none : (i : ℕ) → Between 1 m i → Sends (frame i) k c → ⊥ =
+      λ i own h. n (t .shown k c i b l own .1 h ∙ sym (t′ .shown k c i b l own .1 (rw (same i own) at h))) in
+      t .empty k c b l .1 none ∙ sym (t′ .empty k c b l .1 (λ i own h. none i own (rw (← same i own) at h))))
 
-    pub one-table : (j : ℕ) → j < 64 * s .slots → getD cells j 0 ≡ getD cells′ j 0
-    one-table j l =
-        let at : 64 * (1 + j / 64 - 1) + j % 64 ≡ j = omega arith in
-        subst (λ (n : ℕ). getD cells n 0 ≡ getD cells′ n 0) at
-        (one-cell (1 + j / 64) (j % 64) (omega arith) (omega arith))
+  pub one-table : (j : ℕ) → j < 64 * s .slots → getD cells j 0 ≡ getD cells′ j 0
+  one-table j l =
+      let at : 64 * (1 + j / 64 - 1) + j % 64 ≡ j = omega arith in
+      subst (λ (n : ℕ). getD cells n 0 ≡ getD cells′ n 0) at
+      (one-cell (1 + j / 64) (j % 64) (omega arith) (omega arith))

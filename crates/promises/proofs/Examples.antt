@@ -16,8 +16,7 @@ use Rattle.terms.specs.declared.Frame.{Frame}
 use Rattle.terms.specs.Ranges.{settingRows, SettingsInRange, LowestOutOfRange, SignalInRange, Repetition, FrameInRange}
 use Rattle.terms.specs.Lists.{CountInRange, count, signalAt, EachSignal}
 use Rattle.terms.proofs.RepetitionLaws.{repetition-positive, repetition-multiple}
-use Rattle.age.specs.Age.{Age, Start, Release, Carries, ValueAge, firstStart, spanOf}
-use Rattle.age.proofs.AgeLaws.{age-unique}
+use Rattle.age.specs.Age.{Age, Start, Release, Carries, ValueAge}
 use Rattle.age.proofs.AgeTests.{age-test}
 use Rattle.rule.specs.Rule.{Kept}
 use Rattle.cycles.specs.Frames.{Names, Sends}
@@ -30,6 +29,7 @@ use Rattle.promises.proofs.Inputs.{settings, fresh, stale, listOf, case
 use Rattle.promises.proofs.Named.{fresh-valid, fresh-keeps, stale-gets, one, at-one, slot1, case1-count, settings-words}
 use Rattle.promises.proofs.Releasing.{releases}
 use Rattle.promises.proofs.Clock.{starts-named}
+use Rattle.promises.proofs.OnePlan.{one-age}
 
 -- ---- ranges
 
@@ -127,8 +127,7 @@ unfolding euclid
 age-yes = age-test settings stale slot1 2501 .1 tt .1
 
 pub age-no : Age settings stale slot1 2485 → ⊥
-age-no h =
-    omega (arith, age-unique (firstStart settings slot1) (spanOf settings slot1) 0 16 15 2500 2485 2501 h age-yes)
+age-no h = omega (arith, one-age settings stale slot1 h age-yes)
 
 -- ---- repetitions, cycles and the rule
 

@@ -13,6 +13,7 @@ use lib.ListN.{getD}
 use lib.WfN.{Nat·lt-wfRel}
 use Rattle.laws.specs.Lowest.{Between, EachTo}
 use Rattle.terms.specs.declared.Settings.{Settings}
+use Rattle.terms.specs.declared.Signal.{Signal}
 use Rattle.terms.specs.declared.Frame.{Frame}
 use Rattle.terms.specs.Lists.{count, signalAt, groupOf}
 use Rattle.terms.specs.Results.{resultSize, resultStart, resultAt}
@@ -86,11 +87,10 @@ module _ (slots m : ℕ) (group : ℕ → ℕ) where
     cell = base-sent (a .drawn .frames i own)
 
     -- a frame that goes before i in the second is not in i's cell in the first
-    not-both : (j k : ℕ) → Own j → Before group frame′ j i → frame i .slot ≡ k → Sends (frame′ j) k (frame i .base)
-        → ⊥
-    not-both j k at b e sends =
-        let also = subst (λ (f : Frame). Sends f k (frame i .base)) (sym (before j at (inr b))) sends in
-        not-itself frame′ j i (a .drawn .apart j i k (frame i .base) at own (cell .0) also (e, cell .1 .1)) b
+    not-both : (j : ℕ) {k : ℕ} → Own j → Before group frame′ j i → frame i .slot ≡ k → Sends (frame′ j) k (frame i .base) → ⊥
+    not-both j here b e sends =
+        let both = a .drawn .apart j i _ _ here own (cell .0) (rw (← before j here (inr b)) at sends) (e, cell .1 .1) in
+        not-itself frame′ j i both b
 
     -- in the second, a frame of i's unit in a lower slot goes before i: `onward`
     lower-before : (j : ℕ) → Own j → frame′ j .slot < frame′ i .slot → group j ≡ group i → Before group frame′ j i
@@ -101,26 +101,22 @@ module _ (slots m : ℕ) (group : ℕ → ℕ) where
     -- a lower slot is in use in the second: `lowest`; by a frame of i's unit: `units`; so all its cycles are taken
     -- before i: `full`
     no-lower-slot : frame i .slot < frame′ i .slot → ⊥
-    no-lower-slot l = used (a′ .filling .lowest i (frame i .slot) own (a .drawn .frames i own .slot .0, omega arith))
-      where
-        taken : (j : ℕ) → Own j → frame′ j .slot ≡ frame i .slot → group j ≡ group i → ⊥
-        taken j at e u =
-            let (n, here, sends) =
-            a′ .filling .full j i (frame i .base) at own (lower-before j at (omega arith) u) (omega arith) (cell .0) in
-            let of-unit = a′ .drawn .one-group n j here at (sends .0) ∙ u in
-            not-both n (frame′ j .slot) here (lower-before n here (omega (arith, sends .0)) of-unit) (sym e) sends
-
-        used : (j : ℕ) × Own j × (frame′ j .slot ≡ frame i .slot) → ⊥
-        used (j, at, e) =
-            compare (group j) (group i)
-            (λ u. omega (arith, a .filling .units j i at own u, ap (λ (f : Frame). f .slot) (before j at (inl u))))
-            (taken j at e) (λ u. omega (arith, a′ .filling .units i j own at u))
+    no-lower-slot l =
+        let (j, at, e) = a′ .filling .lowest i (frame i .slot) own (a .drawn .frames i own .slot .0, omega arith) in
+        compare (group j) (group i)
+        (λ u. omega (arith, a .filling .units j i at own u, ap (λ (f : Frame). f .slot) (before j at (inl u))))
+        (λ u.
+        let (n, here, sends) =
+        a′ .filling .full j i (frame i .base) at own (lower-before j at (omega arith) u) (omega arith) (cell .0) in
+        let of-unit : group n ≡ group i = omega (arith, a′ .drawn .one-group n j here at (sends .0)) in
+        not-both n here (lower-before n here (omega (arith, sends .0)) of-unit) (sym e) sends)
+        (λ u. omega (arith, a′ .filling .units i j own at u))
 
     -- a cycle below is taken before i in the second: `first-free`
     no-lower-base : frame i .slot ≡ frame′ i .slot → frame i .base < frame′ i .base → ⊥
     no-lower-base e l =
         let (j, at, b, sends) = a′ .filling .first-free i (frame i .base) own l in
-        not-both j (frame′ i .slot) at b e sends
+        not-both j at b e sends
 
   module _ (frame frame′ : ℕ → Frame) (a : FilledPlan frame) (a′ : FilledPlan frame′)
       (same-repetition : EachTo m (λ i. frame i .repetition ≡ frame′ i .repetition)) where
@@ -158,6 +154,9 @@ one-filling s list p q frame frame′ age age′ a a′ f f′ =
 
 -- ---- one row of words
 
+pub one-age : (s : Settings) (x : Signal) (f : Frame) {a b : ℕ} → Age s x f a → Age s x f b → a ≡ b
+one-age s x f = age-unique (firstStart s f) (spanOf s f) (s .packing) (s .slot) (x .offset) (x .period) _ _
+
 -- what the words of an accepted plan show
 pub record ShownPlan (s : Settings) (list : List ℕ) (place : ℕ) (word : ℕ → ℕ) : Type 0 where
   pub accepted : AcceptedPlan s list place (frameOf word) (ageOf word)
@@ -177,11 +176,8 @@ module _ {s : Settings} {list : List ℕ} {p p′ : ℕ} {word word′ : ℕ →
 
   one-result : EachTo (count list) (λ i. resultAt word i ≡ resultAt word′ i)
   one-result i b =
-      let f = frameOf word′ i in
-      let x = signalAt list i in
-      let age =
-      age-unique (firstStart s f) (spanOf s f) (s .packing) (s .slot) (x .offset) (x .period) _ _
-      (subst (λ (g : Frame). Age s x g (ageOf word i)) (one-frame i b) (a .ages i b .is-age)) (a′ .ages i b .is-age) in
+      let moved = subst (λ (g : Frame). Age s (signalAt list i) g (ageOf word i)) (one-frame i b) (a .ages i b .is-age) in
+      let age = one-age s (signalAt list i) (frameOf word′ i) moved (a′ .ages i b .is-age) in
       λ k. record { frame = one-frame i b k; age = age k }
 
   pub one-words : (j : ℕ) → j < resultSize * count list → word j ≡ word′ j

@@ -16,8 +16,7 @@ use Rattle.terms.specs.declared.Settings.{Settings}
 use Rattle.terms.specs.Lists.{signalSize, count, signalAt, groupOf}
 use Rattle.terms.specs.Answers.{roomRow}
 use Rattle.terms.specs.Requests.{Request, PlanRoom}
-use Rattle.age.specs.Age.{Age, firstStart, spanOf}
-use Rattle.age.proofs.AgeLaws.{age-unique}
+use Rattle.age.specs.Age.{Age}
 use Rattle.age.proofs.AgeTests.{age-test}
 use Rattle.cycles.specs.Frames.{Names}
 use Rattle.filling.specs.Shown.{cellOf}
@@ -37,6 +36,7 @@ use Rattle.promises.proofs.Inputs.{settings, asked, fresh, half, case1,
 use Rattle.promises.proofs.Inputs.{sixty-four, slot-two, often, invented, spread, colliding, case1-book, pair-book, exchanged}
 use Rattle.promises.proofs.Named.{half-gets, every, slot1, case1-table, case1-count, case1-ready, case1-holds, pair-holds}
 use Rattle.promises.proofs.Clock.{base-sent}
+use Rattle.promises.proofs.OnePlan.{one-age}
 use Rattle.promises.proofs.FillingExamples.{lowest-slot-no}
 
 module _ (Gives : Routine Request PlanRoom) where
@@ -72,13 +72,7 @@ module _ (Gives : Routine Request PlanRoom) where
     pub invents-ages : (x : Request) → Gives x l y → (i age : ℕ) → Between 1 (count (x .list)) i
         → Age (x .settings) (signalAt (x .list) i) (frameOf (overWords .word (y .lent)) i) age
         → ageOf (overWords .word (y .lent)) i ≡ age
-    invents-ages x g i age b true-age =
-        let s = x .settings in
-        let t = signalAt (x .list) i in
-        let f = frameOf (overWords .word (y .lent)) i in
-        age-unique (firstStart s f) (spanOf s f) (s .packing) (s .slot) (t .offset) (t .period)
-        (ageOf (overWords .word (y .lent)) i) age
-        (keeps .ages x l y g z i b .is-age) true-age
+    invents-ages x g i age b true-age = one-age (x .settings) (signalAt (x .list) i) _ (keeps .ages x l y g z i b .is-age) true-age
 
   -- ---- what breaks demand 3
 

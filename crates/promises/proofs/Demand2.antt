@@ -13,7 +13,7 @@ use Rattle.laws.proofs.RowLaws.{front-number, past}
 use Rattle.terms.specs.declared.Settings.{Settings}
 use Rattle.terms.specs.Answers.{numberOf, placeOf, roomRow}
 use Rattle.terms.specs.Requests.{Request, PlanRoom}
-use Rattle.terms.specs.Ranges.{settingWord}
+use Rattle.terms.specs.Ranges.{settingWord, settingsFrom}
 use Rattle.terms.specs.Lists.{signalSize, count}
 use Rattle.book.specs.Reading.{signalsOf, settingsIn, fiveZeros, listIn, bookRows}
 use Rattle.book.specs.Outcomes.{ReadOutcome, WriteOutcome}
@@ -105,7 +105,7 @@ module _ (s : Settings) (book l : List ℕ) (y : Return (List ℕ)) (p : ReadsFr
   c-settings-are t same =
       let (word, told, e) = p .2 in
       let h : (w : ℕ) → word w ≡ settingWord t w = λ w. told w .answer ∙ ap (λ (t : Settings). settingWord t w) (same w) in
-      e ∙ λ i. record { cycle = h 2 i; slot = h 3 i; slots = h 4 i; packing = h 5 i; payload = h 6 i }
+      e ∙ λ i. settingsFrom (λ w. h w i)
 
   abbrev last : List Row
   last = roomRow (signalSize * signalsOf book) (length l) ∷ []

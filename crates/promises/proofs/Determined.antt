@@ -11,6 +11,7 @@ use Rattle.laws.specs.Rows.{Row}
 use Rattle.laws.proofs.RowLaws.{Single, one-outcome}
 use Rattle.terms.specs.declared.Settings.{Settings}
 use Rattle.terms.specs.Requests.{Request, PlanRoom, request, planRoom}
+use Rattle.terms.specs.Ranges.{settingsFrom, settingWord}
 use Rattle.terms.specs.Lists.{count}
 use Rattle.terms.specs.Results.{resultSize}
 use Rattle.filling.proofs.Unique.{same-list}
@@ -103,11 +104,14 @@ editor-one G G′ keeps keeps′ book l small y y′ g g′ =
     (λ j h. two′ .bytes book l y′ g′ small j) (one-words (bytes-shown keeps book l y g z) (bytes-shown keeps′ book l y′ g′ z′))))
 
 -- "reading, then planning": an accepted book's plan is that of its settings and its list over words
-pub editor-as-words : (G : Routine (List ℕ) (List ℕ)) (H : Routine Request PlanRoom) → EditorKeeps G → PlanningKeeps H
-    → WhereDone G
+abbrev pub AsWords : Routine (List ℕ) (List ℕ) → Routine Request PlanRoom → Type 0
+AsWords G H =
+    WhereDone G
     (λ book l y.
     (room : PlanRoom) (w : Return PlanRoom) → H (request (settingsIn book) (listIn book)) room w → w .number ≡ 0
     → (y .place ≡ w .place) × ((p : ℕ) → p < resultSize * count (listIn book) → wordAt (y .lent) p ≡ getD (w .lent .results) p 0))
+
+pub editor-as-words : (G : Routine (List ℕ) (List ℕ)) (H : Routine Request PlanRoom) → EditorKeeps G → PlanningKeeps H → AsWords G H
 editor-as-words G H keeps keeps′ book l y g z room w h z′ =
     let a = bytes-shown keeps book l y g z in
     let a′ = words-shown keeps′ _ room w h z′ in
@@ -118,16 +122,9 @@ editor-as-words G H keeps keeps′ book l y g z room w h z′ =
 -- settings are numbers, so it is enough that they are not different: nobody need decide `With`
 same-settings : (s s′ : Settings) → ((s ≡ s′ → ⊥) → ⊥) → s ≡ s′
 same-settings s s′ h =
-    let at : (word : Settings → ℕ) → word s ≡ word s′ =
-    λ word. dite (ℕ-discrete (word s) (word s′)) (λ e. e) (λ n. absurd (h (λ e. n (ap word e)))) in
-    λ k.
-    record {
-      cycle = at (λ s. s .cycle) k;
-      slot = at (λ s. s .slot) k;
-      slots = at (λ s. s .slots) k;
-      packing = at (λ s. s .packing) k;
-      payload = at (λ s. s .payload) k;
-    }
+    let at : (w : ℕ) → settingWord s w ≡ settingWord s′ w =
+    λ w. dite (ℕ-discrete _ _) (λ e. e) (λ n. absurd (h (λ e. n (ap (λ (t : Settings). settingWord t w) e)))) in
+    λ k. settingsFrom (λ w. at w k)
 
 module _ (With : ℕ → Type 0) (Reads Reads′ : Settings → Routine (List ℕ) (List ℕ)) (Writes Writes′ : Routine Request (List ℕ))
     (keeps : BooksKeep With Reads Writes) (keeps′ : BooksKeep With Reads′ Writes′) where

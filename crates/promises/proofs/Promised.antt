@@ -1,20 +1,14 @@
 -- All that is promised is kept; so the three ways to plan give one plan.
 -- Assumes nothing.
 use mathlib.Core.Path.{_≡_}
-use Prim.Native.Nat.{ℕ, _*_, _<_}
-use lib.ListN.{getD}
-use Rattle.terms.specs.Lists.{count}
-use Rattle.book.specs.Words.{wordAt}
-use Rattle.book.specs.Reading.{settingsIn, listIn}
-use Rattle.terms.specs.Requests.{Request, PlanRoom, request}
-use Rattle.terms.specs.Results.{resultSize}
+use Rattle.terms.specs.Requests.{Request, PlanRoom}
 use Rattle.age.proofs.AgeLaws.{paper-is-age}
-use Rattle.promises.specs.Calls.{Return, WhereDone, Plans, PlansList, PlansBook}
+use Rattle.promises.specs.Calls.{Return, Plans, PlansList, PlansBook}
 use Rattle.promises.specs.Promised.{Promised}
 use Rattle.promises.proofs.Demand1.{plan-1, plan-list-1, plan-book-1, read-1, read-c-1, write-1, write-c-1}
 use Rattle.promises.proofs.Demand2.{plan-2, plan-list-2, plan-book-2, books-2, books-c-2}
 use Rattle.promises.proofs.Demand3.{plan-3, plan-list-3, plan-book-3, plan-fills-3, plan-list-fills, plan-book-fills}
-use Rattle.promises.proofs.Determined.{planning-one, editor-as-words}
+use Rattle.promises.proofs.Determined.{planning-one, AsWords, editor-as-words}
 
 pub promised : Promised
 promised =
@@ -32,8 +26,5 @@ pub list-as-plan : (x : Request) (l : PlanRoom) (y y′ : Return PlanRoom) → P
 list-as-plan = planning-one Plans PlansList (promised .plan) (promised .plan-list)
 
 -- and the editor's results are planning's, of the settings and the list in the book
-pub book-as-plan : WhereDone PlansBook
-    (λ book l y.
-    (room : PlanRoom) (w : Return PlanRoom) → Plans (request (settingsIn book) (listIn book)) room w → w .number ≡ 0
-    → (y .place ≡ w .place) × ((p : ℕ) → p < resultSize * count (listIn book) → wordAt (y .lent) p ≡ getD (w .lent .results) p 0))
-book-as-plan book l y g z = editor-as-words PlansBook Plans (promised .plan-book) (promised .plan) book l y g z
+pub book-as-plan : AsWords PlansBook Plans
+book-as-plan = editor-as-words PlansBook Plans (promised .plan-book) (promised .plan)

@@ -48,29 +48,24 @@ module _ {s : Settings} {list : List ℕ} {place : ℕ} {word : ℕ → ℕ} (f 
   shows : (p : Placed) → List·Memᴰ p (filled list (f .R)) → frameOf word (p .signal) ≡ p .frame
   shows p m = f .results p m .frame
 
-  drawn : Drawn (s .slots) (count list) (groupOf list) (frameOf word)
+  pub drawn : Drawn (s .slots) (count list) (groupOf list) (frameOf word)
   drawn = filled-drawn list (f .R) (frameOf word) shows seven grouped (s .slots) (f .fits)
-
-  pub frames-shown : EachTo (count list) (λ i. FrameInRange (s .slots) (frameOf word i))
-  frames-shown = drawn .frames
 
   pub ages-shown : EachTo (count list) (λ i. AgeShown s (signalAt list i) (resultAt word i))
   ages-shown i b =
       record {
         releases = releases (signalAt list i .offset) (signalAt list i .period) (f .signals i b .period .0);
-        frame = frames-shown i b;
-        starts = starts-named s (frameOf word i) (frames-shown i b);
-        is-age = each-frame list (f .R) (frameOf word) shows (λ j g. Age s (signalAt list j) g (ageOf word j)) age i b;
+        frame = drawn .frames i b;
+        starts = starts-named s (frameOf word i) (drawn .frames i b);
+        is-age =
+            each-frame list (f .R) (frameOf word) shows (λ j g. Age s (signalAt list j) g (ageOf word j)) (λ p m.
+            let own = filled-own list (f .R) p m .0 in
+            f .results p m .age .inside
+            (record {
+              valid = record { settings = f .settings; signal = f .signals (p .signal) own };
+              frame = subst (FrameInRange (s .slots)) (shows p m) (drawn .frames (p .signal) own);
+            })) i b;
       }
-    where
-      age : (p : Placed) → List·Memᴰ p (filled list (f .R)) → Age s (signalAt list (p .signal)) (p .frame) (ageOf word (p .signal))
-      age p m =
-          let own = filled-own list (f .R) p m .0 in
-          f .results p m .age .inside
-          (record {
-            valid = record { settings = f .settings; signal = f .signals (p .signal) own };
-            frame = subst (FrameInRange (s .slots)) (shows p m) (frames-shown (p .signal) own);
-          })
 
   rule : Repetitions s list (λ i. frameOf word i .repetition)
   rule =
@@ -80,8 +75,7 @@ module _ {s : Settings} {list : List ℕ} {place : ℕ} {word : ℕ → ℕ} (f 
       subst (Largest (Keeps s (signalAt list (p .signal)) (segment s))) (sym (own .1)) (f .rule (p .signal) (own .0)))
 
   table : Table s list (frameOf word)
-  table =
-      record { drawn = drawn; keeps = λ i b. rule i b .has (λ z. omega (arith, z, frames-shown i b .base)) .1 }
+  table = record { drawn = drawn; keeps = λ i b. rule i b .has (λ z. omega (arith, z, drawn .frames i b .base)) .1 }
 
   pub plan-accepted : AcceptedPlan s list place (frameOf word) (ageOf word)
   plan-accepted =
@@ -89,7 +83,7 @@ module _ {s : Settings} {list : List ℕ} {place : ℕ} {word : ℕ → ℕ} (f 
         rule = rule;
         table = table;
         bounds = λ i b.
-            let g = frames-shown i b in
+            let g = drawn .frames i b in
             table .keeps i b (frameOf word i .slot) (frameOf word i .base) (ageOf word i)
             (among 1 (s .slots) (frameOf word i .slot) (g .slot .0) (omega (arith, g .slot))) (g .base) (ages-shown i b .is-age);
         used = filled-used list (f .R) (frameOf word) shows seven grouped (s .slots) (f .fits) ∙ sym (f .needs);

@@ -24,7 +24,7 @@ use Rattle.book.proofs.RoundTrips.{write-then-read, read-then-write}
 use Rattle.promises.specs.Calls.{Return, Routine, WhereDone, Plans, PlansList, PlansBook, Reads, ReadsFromC, Writes, WritesFromC}
 use Rattle.promises.specs.Shows.{frameOf, overWords}
 use Rattle.promises.specs.Demand2.{TableShown, Demand2Planning, Demand2Editor, Demand2Books}
-use Rattle.promises.proofs.Accepted.{frames-shown, ages-shown, plan-accepted}
+use Rattle.promises.proofs.Accepted.{drawn, ages-shown, plan-accepted}
 use Rattle.promises.proofs.Cells.{table-shown}
 use Rattle.promises.proofs.Lit.{slots-lit}
 use Rattle.promises.proofs.Found.{WordsFound, words-found, list-found, book-found}
@@ -42,13 +42,13 @@ words-2 {G} finds =
       results-behind = λ x l y g z. finds x l y g z .behind;
       slots = λ x l y g z.
           let f = finds x l y g z .found in
-          slots-lit (x .settings) (count (x .list)) _ (y .lent .cells) (frames-shown f) (table x l y g z) ∙ plan-accepted f .used;
+          slots-lit (x .settings) (count (x .list)) _ (y .lent .cells) (drawn f .frames) (table x l y g z) ∙ plan-accepted f .used;
     }
   where
     table : WhereDone G (λ x l y. TableShown (x .settings) (count (x .list)) (frameOf (overWords .word (y .lent))) (y .lent .cells))
     table x l y g z =
         let f = finds x l y g z in
-        table-shown (x .settings) (x .list) (f .found .R) (l .cells) (y .lent .cells) (f .cells) _ (frames-shown (f .found))
+        table-shown (x .settings) (x .list) (f .found .R) (l .cells) (y .lent .cells) (f .cells) _ (drawn (f .found) .frames)
         (λ q m. f .found .results q m .frame)
 
 pub plan-2 : Demand2Planning Plans

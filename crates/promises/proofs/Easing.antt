@@ -25,14 +25,7 @@ keeps-raised s slots R r keeps k b a m l p =
     omega (arith, keeps k b a m l older, r .raised)
 
 signal-raised : (s : Settings) {x y : Signal} → RaisedSignal x y → SignalInRange s x → SignalInRange s y
-signal-raised s r h =
-    record {
-      unit = omega (arith, h .unit, r .unit);
-      period = omega (arith, h .period, r .period);
-      offset = omega (arith, h .offset, r .offset, r .period);
-      size = omega (arith, h .size, r .size);
-      bound = omega (arith, h .bound, r .raised, r .most);
-    }
+signal-raised s r h = omega arith
 
 module _ {list list′ : List ℕ} (r : Eased list list′) where
   -- a signal never moves back

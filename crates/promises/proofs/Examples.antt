@@ -4,10 +4,9 @@
 use mathlib.Core.Path.{_≡_, refl, ap}
 use mathlib.Core.List.{List, [], _∷_, _++_}
 use mathlib.Core.Logic.{inl, inr}
-use Prim.Native.Nat.{ℕ, zero, suc, _^_, _≤_, _<_}
+use Prim.Native.Nat.{ℕ, zero, suc, _^_, _<_}
 use native.Mathlib.Omega.{arith}
 use lib.Dec.{lit≤}
-use lib.ListN.{getD}
 use Rattle.laws.specs.Lowest.{EachTo, LowestWithout}
 use Rattle.laws.proofs.RowLaws.{holds-zero}
 use Rattle.laws.proofs.DivisorLaws.{euclid}
@@ -26,7 +25,7 @@ use Rattle.book.specs.Blocks.{AreWords}
 use Rattle.promises.specs.Demand2.{Releases, StartsAt, Behind}
 use Rattle.promises.specs.Changes.{RaisedSignal, Eased}
 use Rattle.promises.proofs.Inputs.{settings, fresh, stale, listOf, case1, case3, twice}
-use Rattle.promises.proofs.Named.{fresh-valid, fresh-keeps, stale-gets, one, at-one, slot1, case1-count, settings-words}
+use Rattle.promises.proofs.Named.{fresh-valid, fresh-keeps, stale-gets, one, at-one, slot1, case1-count, settings-words, below-test}
 use Rattle.promises.proofs.Releasing.{releases}
 use Rattle.promises.proofs.Clock.{starts-named}
 use Rattle.promises.proofs.OnePlan.{one-age}
@@ -80,7 +79,7 @@ pub each-to-no : EachTo 3 (λ i. i < 3) → ⊥
 each-to-no h = omega (arith, h 3 (lit≤ tt, lit≤ tt))
 
 pub each-yes : EachSignal case1 (SignalInRange settings)
-each-yes = at-one (λ i. SignalInRange settings (signalAt case1 i)) (fresh-valid .signal)
+each-yes = at-one _ (fresh-valid .signal)
 
 pub each-no : EachSignal case1 (λ x. x .unit ≡ 2) → ⊥
 each-no h = omega (arith, h 1 (lit≤ tt, lit≤ tt))
@@ -168,8 +167,7 @@ pub sends-no : Sends slot7 8 61 → ⊥
 sends-no s = omega (arith, s .0)
 
 pub below-yes : AllBelow 256 (255 ∷ [])
-below-yes zero = lit≤ tt
-below-yes (suc i) = lit≤ tt
+below-yes = below-test 256 (255 ∷ []) (lit≤ tt) .1 tt
 
 pub below-no : AllBelow 256 (256 ∷ []) → ⊥
 below-no h = omega (arith, h 0)
@@ -186,15 +184,11 @@ starts-yes = (65, 7, (refl, record { repetition = (2, lit≤ tt, refl); base = l
 
 pub starts-no : StartsAt settings (Sends slot7) 162597 → ⊥
 starts-no at =
-    let in-range : FrameInRange 93 slot7 = record { slot = (lit≤ tt, lit≤ tt); repetition = (2, lit≤ tt, refl); base = lit≤ tt } in
+    let in-range : FrameInRange 93 slot7 = record { slot = omega arith; repetition = names-yes .repetition; base = lit≤ tt } in
     omega (arith, starts-named settings slot7 in-range 162597 .1 at .1)
 
 pub behind-yes : Behind 1 (5 ∷ 6 ∷ []) (7 ∷ 6 ∷ [])
-behind-yes = (refl, stays)
-  where
-    stays : (j : ℕ) → 1 ≤ j → getD {A = ℕ} (7 ∷ 6 ∷ []) j 0 ≡ getD {A = ℕ} (5 ∷ 6 ∷ []) j 0
-    stays zero h = absurd (omega (arith, h))
-    stays (suc j) h = refl
+behind-yes = (refl, λ j. elim j [ zero ↦ λ h. absurd (omega (arith, h)) | suc j ↦ λ h. refl ])
 
 pub behind-no : Behind 1 (5 ∷ 6 ∷ []) (5 ∷ 7 ∷ []) → ⊥
 behind-no h = omega (arith, h .1 1 (lit≤ tt))
@@ -220,14 +214,7 @@ raised-no-past h = omega (arith, h .most)
 
 -- the first signal struck, and the second's bound raised
 pub eased-yes : Eased easedFrom case1
-eased-yes =
-    record {
-      whole = refl;
-      was = suc;
-      rising = λ i j a b c. omega arith;
-      within = λ j b. omega arith;
-      raised = at-one (λ j. RaisedSignal (signalAt easedFrom (suc j)) (signalAt case1 j)) raised-yes;
-    }
+eased-yes = record { whole = refl; was = suc; rising = omega arith; within = omega arith; raised = at-one _ raised-yes }
 
 -- a bound lowered
 pub eased-no-lower : Eased case1 lower → ⊥

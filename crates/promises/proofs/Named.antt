@@ -13,7 +13,7 @@ use Rattle.laws.proofs.DivisorLaws.{euclid}
 use Rattle.terms.specs.declared.Signal.{Signal}
 use Rattle.terms.specs.declared.Frame.{Frame}
 use Rattle.terms.specs.Ranges.{SignalInRange, Valid, Repetition, FrameInRange}
-use Rattle.terms.specs.Lists.{CountInRange, count, signalAt, EachSignal}
+use Rattle.terms.specs.Lists.{CountInRange, count, EachSignal}
 use Rattle.terms.specs.Results.{resultSize}
 use Rattle.terms.specs.Requests.{PlanRoom}
 use Rattle.age.proofs.RangeTests.{valid-test}
@@ -74,11 +74,7 @@ at-one P p i b = subst P (omega (arith, b)) p
 -- a frame in range is drawn rightly where it is the only one
 pub alone : {group : ℕ → ℕ} (n : ℕ) (frame : ℕ → Frame) → FrameInRange n (frame 1) → Drawn n 1 group frame
 alone {group} n frame in-range =
-    record {
-      frames = at-one (λ i. FrameInRange n (frame i)) in-range;
-      apart = λ i j k c a b l m n. omega (arith, a, b);
-      one-group = λ i j a b e. let same : i ≡ j = omega (arith, a, b) in ap group same;
-    }
+    record { frames = at-one _ in-range; apart = omega arith; one-group = λ i j a b e. ap group (omega arith) }
 
 -- slot 1, every cycle; and that this is a table for case 1
 abbrev pub slot1 : Frame
@@ -88,11 +84,7 @@ pub slot1-in-range : FrameInRange (settings .slots) slot1
 slot1-in-range = record { slot = (lit≤ tt, lit≤ tt); repetition = one; base = lit≤ tt }
 
 pub case1-table : Table settings case1 (λ i. slot1)
-case1-table =
-    record {
-      drawn = alone (settings .slots) (λ i. slot1) slot1-in-range;
-      keeps = at-one (λ i. Keeps settings (signalAt case1 i) (segment settings) 1) fresh-keeps;
-    }
+case1-table = record { drawn = alone (settings .slots) (λ i. slot1) slot1-in-range; keeps = at-one _ fresh-keeps }
 
 -- valid settings, a valid list and room
 pub case1-count : CountInRange case1
@@ -105,22 +97,17 @@ module _ (l : PlanRoom) (cells : 5952 ≤ length (l .cells)) where
       record { settings = fresh-valid .settings; whole = whole; signals = signals; enough = (cells, results) }
 
   pub case1-ready : resultSize ≤ length (l .results) → Ready overWords (asked case1) l
-  case1-ready = ready case1 case1-count (at-one (λ i. SignalInRange settings (signalAt case1 i)) (fresh-valid .signal))
+  case1-ready = ready case1 case1-count (at-one _ (fresh-valid .signal))
 
   pub case3-ready : resultSize ≤ length (l .results) → Ready overWords (asked case3) l
-  case3-ready =
-      ready case3 (record { whole = refl; few = lit≤ tt })
-      (at-one (λ i. SignalInRange settings (signalAt case3 i)) (stale-valid .signal))
+  case3-ready = ready case3 (record { whole = refl; few = lit≤ tt }) (at-one _ (stale-valid .signal))
 
 -- ---- the books of case 1 and of `pair`
 
-below-next : (n x : ℕ) (l : List ℕ) → x < n → AllBelow n l → AllBelow n (x ∷ l)
-below-next n x l h below zero = h
-below-next n x l h below (suc i) = below i
-
-abbrev below-test : (n : ℕ) (l : List ℕ) → 0 < n → Test (AllBelow n l)
+-- a list whose numbers are all below n, tested one by one
+abbrev pub below-test : (n : ℕ) (l : List ℕ) → 0 < n → Test (AllBelow n l)
 below-test n [] p = passing (λ i. p)
-below-test n (x ∷ l) p = shown (λ h. below-next n x l (h .0) (h .1)) (join (less x n) (below-test n l p))
+below-test n (x ∷ l) p = shown (λ h i. elim i [ zero ↦ h .0 | suc i ↦ h .1 i ]) (join (less x n) (below-test n l p))
 
 pub settings-words : AreWords settings
 settings-words = record { cycle = lit≤ tt; slot = lit≤ tt; slots = lit≤ tt; packing = lit≤ tt; payload = lit≤ tt }

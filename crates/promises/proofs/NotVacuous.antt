@@ -3,7 +3,7 @@
 -- Assumes nothing.
 use mathlib.Core.Path.{_≡_, refl, _∙_, sym, ap, subst}
 use mathlib.Core.List.{List, [], _++_}
-use mathlib.Core.Logic.{inl, inr, _↔_, dite}
+use mathlib.Core.Logic.{_⊎_, inl, inr, ⊎-elim, _↔_, dite}
 use Prim.Native.Nat.{ℕ, _+_, _*_, _-_, _≤_, _<_, zero-le}
 use native.Mathlib.Decide.{ℕ-discrete}
 use native.Mathlib.Omega.{arith}
@@ -11,24 +11,21 @@ use lib.Dec.{lit≤}
 use lib.ListN.{length, getD, replicate, getD-replicate, length-replicate, List·getD-append}
 use lib.Seq.{getD-append-add}
 use Rattle.laws.specs.Sums.{sum, same}
-use Rattle.laws.specs.Lowest.{Between, EachTo}
+use Rattle.laws.specs.Lowest.{Between}
 use Rattle.laws.proofs.RowLaws.{one-outcome}
 use Rattle.laws.proofs.LowestLaws.{lowest-not-each}
 use Rattle.laws.proofs.DivisorLaws.{euclid}
-use Rattle.terms.specs.declared.Settings.{Settings}
 use Rattle.terms.specs.declared.Frame.{Frame}
-use Rattle.terms.specs.Ranges.{SettingsInRange, SignalInRange, FrameInRange}
-use Rattle.terms.specs.Lists.{CountInRange, count, signalAt, EachSignal, groupOf}
+use Rattle.terms.specs.Lists.{count, signalAt, groupOf}
 use Rattle.terms.specs.Requests.{Request, PlanRoom, planRoom}
 use Rattle.age.proofs.AgeTests.{age-test}
-use Rattle.rule.specs.Rule.{Keeps, segment, Kept, Repetitions}
+use Rattle.rule.specs.Rule.{Kept, Repetitions}
 use Rattle.cycles.specs.Frames.{Sends}
 use Rattle.filling.specs.Shown.{cellOf}
 use Rattle.filling.specs.Filled.{needed}
 use Rattle.filling.specs.Drawn.{Drawn, slotsUsed}
 use Rattle.planner.specs.Rows.{Needed, planningRows}
 use Rattle.planner.proofs.Unique.{needed-one, planning-single}
-use Rattle.book.specs.Reading.{listIn}
 use Rattle.promises.specs.Calls.{Return, Routine}
 use Rattle.promises.specs.Shows.{frameOf, ageOf, overWords, fromBook}
 use Rattle.promises.specs.Tables.{Table, slotsShown}
@@ -38,7 +35,7 @@ use Rattle.promises.specs.Demand3.{AcceptedPlan, Ready, Demand3}
 use Rattle.terms.specs.Results.{resultSize}
 use Rattle.promises.proofs.Inputs.{settings, asked, fresh, result, case1, case3, single, blank}
 use Rattle.promises.proofs.Inputs.{words, case1-results, case1-cells, sixty-four, invented, case1-book}
-use Rattle.promises.proofs.Named.{Gets, fresh-valid, fresh-gets, half-gets, fresh-keeps, every, at-one, alone, slot1, slot1-in-range}
+use Rattle.promises.proofs.Named.{fresh-valid, fresh-gets, half-gets, fresh-keeps, every, at-one, alone, slot1, slot1-in-range}
 use Rattle.promises.proofs.Named.{case1-table, case1-count, ready, case1-ready, case3-ready, case1-holds}
 use Rattle.promises.proofs.Releasing.{releases}
 use Rattle.promises.proofs.Clock.{starts-named, starts-shown}
@@ -72,11 +69,9 @@ ready-no h = omega (arith, h .enough .1)
 pub ready-book-yes : Ready fromBook case1-book (replicate (4 * resultSize) 0)
 ready-book-yes =
     record {
-      settings = subst SettingsInRange (sym (case1-holds .settings-in)) (fresh-valid .settings);
-      whole = subst CountInRange (sym (case1-holds .list-in)) case1-count;
-      signals =
-          subst (λ (s : Settings). EachSignal (listIn case1-book) (SignalInRange s)) (sym (case1-holds .settings-in))
-          (subst (λ (l : List ℕ). EachSignal l (SignalInRange settings)) (sym (case1-holds .list-in)) each-yes);
+      settings = rw (case1-holds .settings-in) (fresh-valid .settings);
+      whole = rw (case1-holds .list-in) case1-count;
+      signals = rw (case1-holds .settings-in, case1-holds .list-in) each-yes;
       enough = (
         case1-holds .sound,
         omega (arith, ap (λ (l : List ℕ). count l) (case1-holds .list-in), length-replicate {A = ℕ} (4 * resultSize) 0),
@@ -90,9 +85,6 @@ frame = frameOf (words case1-results)
 
 abbrev age : ℕ → ℕ
 age = ageOf (words case1-results)
-
-in-range : EachTo 1 (λ i. FrameInRange 93 (frame i))
-in-range = at-one (λ i. FrameInRange 93 (frame i)) slot1-in-range
 
 pub age-shown-yes : AgeShown settings fresh (result 1 0 1 16)
 unfolding euclid
@@ -109,41 +101,34 @@ pub age-shown-no : (age : ℕ) → AgeShown settings fresh (result 94 0 1 age) �
 age-shown-no age h = omega (arith, h .frame .slot)
 
 -- slot 1 shows signal 1 in every cycle, and the others nothing
-in-front : (j : ℕ) → j < 64 → getD case1-cells j 0 ≡ 1
-in-front j h =
-    List·getD-append (replicate 64 1) (replicate 5888 0) 0 j
-    (omega (arith, h, length-replicate {A = ℕ} 64 1)) ∙ getD-replicate 64 j 1 0 h
-
-behind : (j : ℕ) → 64 ≤ j → j < 5952 → getD case1-cells j 0 ≡ 0
-behind j l h =
-    let at : j ≡ length {A = ℕ} (replicate 64 1) + (j - 64) = omega (arith, l, length-replicate {A = ℕ} 64 1) in
-    ap (λ (n : ℕ). getD case1-cells n 0) at
-    ∙ getD-append-add (replicate 64 1) (replicate 5888 0) (j - 64) 0
-    ∙ getD-replicate 5888 (j - 64) 0 0 (omega (arith, l, h))
-
-here : (k c : ℕ) → Between 1 93 k → c < 64 → cellOf case1-cells k c ≡ 1 → 1 ≡ k
-here k c b l e =
-    dite (ℕ-discrete k 1) sym (λ n. absurd (omega (arith, e, behind (64 * (k - 1) + c) (omega arith) (omega arith))))
-
-there : (k c : ℕ) → c < 64 → 1 ≡ k → cellOf case1-cells k c ≡ 1
-there k c l e = in-front (64 * (k - 1) + c) (omega arith)
+cell : (k c : ℕ) → Between 1 93 k → c < 64 → ((k ≡ 1) × (cellOf case1-cells k c ≡ 1)) ⊎ ((k ≡ 1 → ⊥) × (cellOf case1-cells k c ≡ 0))
+cell k c b l =
+    let long = length-replicate {A = ℕ} 64 1 in
+    dite (ℕ-discrete k 1)
+    (λ e.
+    let front = List·getD-append (replicate 64 1) (replicate 5888 0) 0 (64 * (k - 1) + c) (omega arith) in
+    inl (e, front ∙ getD-replicate 64 (64 * (k - 1) + c) 1 0 (omega arith)))
+    (λ n.
+    let at : 64 * (k - 1) + c ≡ length {A = ℕ} (replicate 64 1) + (64 * (k - 2) + c) = omega arith in
+    let behind = getD-append-add {A = ℕ} (replicate 64 1) (replicate 5888 0) (64 * (k - 2) + c) 0 in
+    let zero = getD-replicate {A = ℕ} 5888 (64 * (k - 2) + c) 0 0 (omega arith) in
+    inr (n, omega (arith, ap (λ (j : ℕ). getD case1-cells j 0) at, behind, zero)))
 
 cells-show : (k c i : ℕ) → Between 1 93 k → c < 64 → Between 1 1 i → (cellOf case1-cells k c ≡ i) ↔ Sends (frame i) k c
 cells-show k c i b l =
     at-one (λ i. (cellOf case1-cells k c ≡ i) ↔ Sends (frame i) k c)
-    ((λ e. (here k c b l e, every c)), λ s. there k c l (s .0)) i
+    (⊎-elim (λ t. ((λ e. (sym (t .0), every c)), λ s. t .1))
+    (λ f. ((λ e. absurd (omega (arith, f .1))), λ s. absurd (f .0 (sym (s .0))))) (cell k c b l)) i
 
 pub table-shown-yes : TableShown settings 1 frame case1-cells
 table-shown-yes =
     record {
       shown = cells-show;
       empty = λ k c b l. (
-        (λ e i at s. at-one (λ i. Sends (frame i) k c → ⊥) (λ s. omega (arith, e, there k c l (s .0))) i at s),
-        λ none.
-            dite (ℕ-discrete k 1) (λ z. absurd (none 1 (lit≤ tt, lit≤ tt) (sym z, every c)))
-            (λ n. behind (64 * (k - 1) + c) (omega arith) (omega arith)),
+        (λ e i own s. omega (arith, own, cells-show k c i b l own .1 s)),
+        λ none. ⊎-elim (λ t. absurd (none 1 (lit≤ tt, lit≤ tt) (sym (t .0), every c))) (λ f. f .1) (cell k c b l),
       );
-      clock = starts-shown settings 1 frame case1-cells in-range cells-show;
+      clock = starts-shown settings 1 frame case1-cells (at-one _ slot1-in-range) cells-show;
     }
 
 pub table-shown-no : TableShown settings 1 frame blank → ⊥
@@ -158,7 +143,7 @@ one-shown = refl
 
 -- the rule gives the signal of case 1 repetition 1, and 5000/0/5000 not 1 but 2
 pub repetitions-yes : Repetitions settings case1 (λ i. 1)
-repetitions-yes = at-one (λ i. Gets (signalAt case1 i) 1) fresh-gets
+repetitions-yes = at-one _ fresh-gets
 
 pub repetitions-no : Repetitions settings single (λ i. 1) → ⊥
 repetitions-no r =
@@ -188,13 +173,9 @@ pub accepted-yes : AcceptedPlan settings case1 1 frame age
 unfolding sum same
 accepted-yes =
     record {
-      rule = at-one (λ i. Gets (signalAt case1 i) (frame i .repetition)) fresh-gets;
-      table =
-          record {
-            drawn = alone 93 frame slot1-in-range;
-            keeps = at-one (λ i. Keeps settings (signalAt case1 i) (segment settings) (frame i .repetition)) fresh-keeps;
-          };
-      bounds = at-one (λ i. age i ≤ signalAt case1 i .bound) (lit≤ tt);
+      rule = at-one _ fresh-gets;
+      table = record { drawn = alone 93 frame slot1-in-range; keeps = at-one _ fresh-keeps };
+      bounds = at-one _ (lit≤ tt);
       used = refl;
       fewest = one-least;
     }
@@ -234,19 +215,12 @@ module _ (Gives : Routine Request PlanRoom) (l : PlanRoom) (y : Return PlanRoom)
   pub case12-done : Demand3 overWords Gives → Demand2Planning Gives → Gives (asked []) l y
       → (y .number ≡ 0) × ((k c : ℕ) → Between 1 93 k → c < 64 → cellOf (y .lent .cells) k c ≡ 0)
   case12-done three two g =
-      let none : (i : ℕ) → Between 1 0 i → ⊥ = λ i b. omega (arith, b .0, b .1) in
-      let room = ready l cells [] (record { whole = refl; few = lit≤ tt }) (λ i b. absurd (none i b)) zero-le in
-      let table : Table settings [] (λ i. slot1) =
-      record {
-        drawn =
-            record {
-              frames = λ i b. absurd (none i b);
-              apart = λ i j k c a. absurd (none i a);
-              one-group = λ i j a. absurd (none i a);
-            };
-        keeps = λ i b. absurd (none i b);
-      } in
+      let room = ready l cells [] (record { whole = refl; few = lit≤ tt }) (λ i b. absurd (omega arith)) zero-le in
+      let drawn : Drawn 93 0 (groupOf []) (λ i. slot1) =
+      record { frames = λ i b. absurd (omega arith); apart = omega arith; one-group = omega arith } in
       let number : y .number ≡ 0 =
       dite (ℕ-discrete (y .number) 0) (λ e. e)
-      (λ n. absurd (three .refused-exactly (asked []) l y g room .0 n (λ i. slot1) table)) in
-      (number, λ k c b h. two .table (asked []) l y g number .empty k c b h .1 (λ i at. absurd (none i at)))
+      (λ n.
+      absurd (three .refused-exactly (asked []) l y g room .0 n (λ i. slot1)
+      (record { drawn = drawn; keeps = λ i b. absurd (omega arith) }))) in
+      (number, λ k c b h. two .table (asked []) l y g number .empty k c b h .1 (λ i own. absurd (omega arith)))

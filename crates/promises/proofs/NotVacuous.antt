@@ -1,8 +1,8 @@
 -- Plans and tables: of what the demands say of them, one thing that satisfies it and one that does not, on lists that are not
 -- empty; and what every routine that keeps the demands gives of cases 1, 3 and 12.
 -- Assumes nothing.
-use mathlib.Core.Path.{_≡_, refl, _∙_, sym, ap, subst}
-use mathlib.Core.List.{List, [], _++_}
+use mathlib.Core.Path.{_≡_, refl, _∙_, sym, ap}
+use mathlib.Core.List.{[], _++_}
 use mathlib.Core.Logic.{_⊎_, inl, inr, ⊎-elim, _↔_, dite}
 use Prim.Native.Nat.{ℕ, _+_, _*_, _-_, _≤_, _<_, zero-le}
 use native.Mathlib.Decide.{ℕ-discrete}
@@ -56,9 +56,7 @@ pub table-yes : Table settings case1 (λ i. slot1)
 table-yes = case1-table
 
 pub table-no : (frame : ℕ → Frame) → Table settings case3 frame → ⊥
-table-no frame t =
-    let b : Between 1 1 1 = (lit≤ tt, lit≤ tt) in
-    kept-no (frame 1 .repetition, t .drawn .frames 1 b .repetition, t .keeps 1 b)
+table-no frame t = kept-no (_, t .drawn .frames 1 (lit≤ tt, lit≤ tt) .repetition, t .keeps 1 (lit≤ tt, lit≤ tt))
 
 pub ready-yes : Ready overWords (asked case1) (planRoom blank case1-results)
 ready-yes = case1-ready (planRoom blank case1-results) (omega (arith, length-replicate {A = ℕ} 5952 0)) (lit≤ tt)
@@ -72,19 +70,13 @@ ready-book-yes =
       settings = rw (case1-holds .settings-in) (fresh-valid .settings);
       whole = rw (case1-holds .list-in) case1-count;
       signals = rw (case1-holds .settings-in, case1-holds .list-in) each-yes;
-      enough = (
-        case1-holds .sound,
-        omega (arith, ap (λ (l : List ℕ). count l) (case1-holds .list-in), length-replicate {A = ℕ} (4 * resultSize) 0),
-      );
+      enough = (case1-holds .sound, omega (arith, ap count (case1-holds .list-in), length-replicate {A = ℕ} (4 * resultSize) 0));
     }
 
 -- ---- the plan of case 1
 
 abbrev frame : ℕ → Frame
 frame = frameOf (words case1-results)
-
-abbrev age : ℕ → ℕ
-age = ageOf (words case1-results)
 
 pub age-shown-yes : AgeShown settings fresh (result 1 0 1 16)
 unfolding euclid
@@ -162,14 +154,13 @@ needed-no h = omega (arith, needed-one settings case1 2 1 h needed-yes)
 
 -- no table of case 1 uses fewer slots than one, and there is one that uses one
 one-least : (other : ℕ → Frame) → Table settings case1 other → 1 ≤ slotsUsed 93 1 other
-one-least other t =
-    subst (λ (n : ℕ). n ≤ slotsUsed 93 1 other) needs-one (needed-least settings case1 (λ i. 1) repetitions-yes other t)
+one-least other t = omega (arith, needs-one, needed-least settings case1 (λ i. 1) repetitions-yes other t)
 
 uses-one : slotsUsed 93 1 (λ i. slot1) ≡ 1
 unfolding sum same
 uses-one = refl
 
-pub accepted-yes : AcceptedPlan settings case1 1 frame age
+pub accepted-yes : AcceptedPlan settings case1 1 frame (ageOf (words case1-results))
 unfolding sum same
 accepted-yes =
     record {
@@ -181,23 +172,20 @@ accepted-yes =
     }
 
 -- repetition 64, over the bound; and two slots claimed
-pub accepted-no-64 : (place : ℕ)
-    → AcceptedPlan settings case1 place (frameOf (words sixty-four)) (ageOf (words sixty-four)) → ⊥
+pub accepted-no-64 : (place : ℕ) → AcceptedPlan settings case1 place (frameOf (words sixty-four)) (ageOf (words sixty-four)) → ⊥
 accepted-no-64 place h = omega (arith, h .bounds 1 (lit≤ tt, lit≤ tt))
 
-pub accepted-no-two : AcceptedPlan settings case1 2 frame age → ⊥
+pub accepted-no-two : AcceptedPlan settings case1 2 frame (ageOf (words case1-results)) → ⊥
 accepted-no-two h = omega (arith, h .used, accepted-yes .used)
 
 -- ---- cases 1, 3 and 12, of every routine that keeps the demands
 
-module _ (Gives : Routine Request PlanRoom) (l : PlanRoom) (y : Return PlanRoom)
-    (cells : 5952 ≤ length (l .cells)) where
+module _ (Gives : Routine Request PlanRoom) (l : PlanRoom) (y : Return PlanRoom) (cells : 5952 ≤ length (l .cells)) where
   -- case 1 is accepted, in one slot
   pub case1-accepted : Demand3 overWords Gives → resultSize ≤ length (l .results) → Gives (asked case1) l y
       → (y .number ≡ 0) × (y .place ≡ 1)
   case1-accepted keeps results g =
-      let number : y .number ≡ 0 = dite (ℕ-discrete (y .number) 0) (λ e. e)
-      (λ n. absurd (refuses-all Gives keeps l y cells results g n)) in
+      let number = dite (ℕ-discrete (y .number) 0) (λ e. e) (λ n. absurd (refuses-all Gives keeps l y cells results g n)) in
       let a = keeps .accepted (asked case1) l y g number in
       (number, omega (arith, a .fewest (λ i. slot1) case1-table, uses-one, one-least _ (a .table), a .used))
 

@@ -1,6 +1,6 @@
 -- Programs that look right and are not: no routine that keeps the named demand gives, of the named input, what each of them gives.
 -- Assumes nothing.
-use mathlib.Core.Path.{_≡_, refl, _∙_, sym, ap, subst}
+use mathlib.Core.Path.{_≡_, refl, _∙_, sym, ap}
 use mathlib.Core.List.{List, [], _∷_}
 use mathlib.Core.Logic.{_⊎_, ⊎-elim}
 use Prim.Native.Nat.{ℕ, _+_, _*_, _-_, _≤_, _<_}
@@ -13,17 +13,17 @@ use Rattle.laws.specs.Lowest.{Between}
 use Rattle.laws.proofs.RowLaws.{hold-join, holds-zero}
 use Rattle.laws.proofs.DivisorLaws.{euclid}
 use Rattle.terms.specs.declared.Settings.{Settings}
-use Rattle.terms.specs.Lists.{signalSize, count, signalAt, groupOf}
+use Rattle.terms.specs.Lists.{signalSize, count, signalAt}
 use Rattle.terms.specs.Answers.{roomRow}
 use Rattle.terms.specs.Requests.{Request, PlanRoom}
 use Rattle.age.specs.Age.{Age}
 use Rattle.age.proofs.AgeTests.{age-test}
 use Rattle.cycles.specs.Frames.{Names}
 use Rattle.filling.specs.Shown.{cellOf}
-use Rattle.filling.specs.Drawn.{slotsUsed, FillingShown}
+use Rattle.filling.specs.Drawn.{slotsUsed}
 use Rattle.book.specs.Words.{AllBelow, wordAt}
 use Rattle.book.specs.Blocks.{bookWord, bookOf, writingRows}
-use Rattle.book.specs.Reading.{signalsOf, settingsIn, listIn, bookRows, readingRows}
+use Rattle.book.specs.Reading.{signalsOf, settingsIn, bookRows, readingRows}
 use Rattle.book.proofs.WordLaws.{word-in-front}
 use Rattle.promises.specs.Calls.{Return, Routine}
 use Rattle.promises.specs.Shows.{frameOf, ageOf, overWords, fromBook}
@@ -87,9 +87,7 @@ module _ (Gives : Routine Request PlanRoom) where
       -- what an accepted plan is, of results that are known
       accepted : (list results : List ℕ) → Gives (asked list) l y → y .lent .results ≡ results
           → AcceptedPlan settings list (y .place) (frameOf (words results)) (ageOf (words results))
-      accepted list results g e =
-          subst (λ (r : List ℕ). AcceptedPlan settings list (y .place) (frameOf (words r)) (ageOf (words r))) e
-          (keeps .accepted (asked list) l y g z)
+      accepted list results g e = rw e at (keeps .accepted (asked list) l y g z)
 
       -- invents the slots used: at case 1 it gives all that there are, where one would do
       pub invents-slots : Gives (asked case1) l y → y .place ≡ 93 → ⊥
@@ -126,8 +124,7 @@ module _ (Gives : Routine Request PlanRoom) where
 
   pub second-slot : ShowsFilling overWords Gives → (l : PlanRoom) (y : Return PlanRoom) → y .number ≡ 0
       → Gives (asked case1) l y → y .lent .results ≡ slot-two → ⊥
-  second-slot keeps l y z g e =
-      lowest-slot-no (subst (λ (r : List ℕ). FillingShown 1 (groupOf case1) (frameOf (words r))) e (keeps (asked case1) l y g z))
+  second-slot keeps l y z g e = lowest-slot-no (rw e at (keeps (asked case1) l y g z))
 
 -- what they show is true as far as it goes: the ages are the definition's
 pub sixty-four-true : Age settings fresh (frameOf (words sixty-four) 1) (ageOf (words sixty-four) 1)
@@ -140,17 +137,11 @@ often-true = age-test settings half (frameOf (words often) 1) 16 .1 tt .1
 
 -- ---- from the editor: of the book of `pair`
 
-module _ (Gives : Routine (List ℕ) (List ℕ)) (keeps : Demand3 fromBook Gives) (l : List ℕ) (y : Return (List ℕ))
-    (z : y .number ≡ 0)
+module _ (Gives : Routine (List ℕ) (List ℕ)) (keeps : Demand3 fromBook Gives) (l : List ℕ) (y : Return (List ℕ)) (z : y .number ≡ 0)
     (g : Gives pair-book l y) where
-  abbrev Plan : Settings → (list bytes : List ℕ) → Type 0
-  Plan s list bytes = AcceptedPlan s list (y .place) (frameOf (wordAt bytes)) (ageOf (wordAt bytes))
-
-  shown-plan : (bytes : List ℕ) → y .lent ≡ bytes → Plan settings pair bytes
-  shown-plan bytes e =
-      subst (λ (b : List ℕ). Plan settings pair b) e
-      (subst (λ (list : List ℕ). Plan settings list (y .lent)) (pair-holds .list-in)
-      (subst (λ (s : Settings). Plan s (listIn pair-book) (y .lent)) (pair-holds .settings-in) (keeps .accepted pair-book l y g z)))
+  shown-plan : (bytes : List ℕ) → y .lent ≡ bytes
+      → AcceptedPlan settings pair (y .place) (frameOf (wordAt bytes)) (ageOf (wordAt bytes))
+  shown-plan bytes e = rw (pair-holds .settings-in, pair-holds .list-in, e) at (keeps .accepted pair-book l y g z)
 
   -- shows two slots and claims one
   pub claims-one-slot : y .lent ≡ spread → y .place ≡ 1 → ⊥

@@ -7,10 +7,9 @@ use Prim.Native.Nat.{ℕ, _+_, _*_, _-_, _≤_, _<_}
 use native.Mathlib.Omega.{arith}
 use lib.Dec.{lit≤}
 use lib.ListN.{length, getD, drop, getD-replicate}
-use Rattle.laws.specs.Rows.{Hold}
 use Rattle.laws.specs.Sums.{sum, same}
 use Rattle.laws.specs.Lowest.{Between}
-use Rattle.laws.proofs.RowLaws.{hold-join, holds-zero}
+use Rattle.laws.proofs.RowLaws.{past, holds-zero}
 use Rattle.laws.proofs.DivisorLaws.{euclid}
 use Rattle.terms.specs.declared.Settings.{Settings}
 use Rattle.terms.specs.Lists.{signalSize, count, signalAt}
@@ -20,10 +19,9 @@ use Rattle.age.specs.Age.{Age}
 use Rattle.age.proofs.AgeTests.{age-test}
 use Rattle.cycles.specs.Frames.{Names}
 use Rattle.filling.specs.Shown.{cellOf}
-use Rattle.filling.specs.Drawn.{slotsUsed}
 use Rattle.book.specs.Words.{AllBelow, wordAt}
 use Rattle.book.specs.Blocks.{bookWord, bookOf, writingRows}
-use Rattle.book.specs.Reading.{signalsOf, settingsIn, bookRows, readingRows}
+use Rattle.book.specs.Reading.{signalsOf, settingsIn, bookRows}
 use Rattle.book.proofs.WordLaws.{word-in-front}
 use Rattle.promises.specs.Calls.{Return, Routine}
 use Rattle.promises.specs.Shows.{frameOf, ageOf, overWords, fromBook}
@@ -55,18 +53,15 @@ module _ (Gives : Routine Request PlanRoom) where
     -- one plan for all: case 1 and the empty list cannot have the same table
     pub one-plan-for-all : Gives (asked case1) l y → Gives (asked []) l y → ⊥
     one-plan-for-all g h =
-        let at = shown-somewhere (asked case1) g 1 (lit≤ tt, lit≤ tt) in
-        let clear = keeps .table (asked []) l y h z .empty (at .0) (at .1) (at .2) (at .3) .1
-        (λ i b. absurd (omega (arith, b .0, b .1))) in
-        omega (arith, at .4, clear)
+        let (k, c, b, low, at) = shown-somewhere (asked case1) g 1 (lit≤ tt, lit≤ tt) in
+        omega (arith, keeps .table (asked []) l y h z .empty k c b low .1 (λ i own. absurd (omega arith)))
 
     -- writes nothing: case 1 in a table lent blank
     pub writes-nothing : Gives (asked case1) l y → y .lent .cells ≡ blank → ⊥
     writes-nothing g e =
-        let at = shown-somewhere (asked case1) g 1 (lit≤ tt, lit≤ tt) in
-        let zero : cellOf blank (at .0) (at .1) ≡ 0 = getD-replicate 5952 (64 * (at .0 - 1) + at .1) 0 0
-        (omega (arith, at .2, at .3)) in
-        omega (arith, at .4, ap (λ (cells : List ℕ). cellOf cells (at .0) (at .1)) e, zero)
+        let (k, c, b, low, at) = shown-somewhere (asked case1) g 1 (lit≤ tt, lit≤ tt) in
+        let zero = getD-replicate {A = ℕ} 5952 (64 * (k - 1) + c) 0 0 (omega arith) in
+        omega (arith, ap (λ (cells : List ℕ). cellOf cells k c) e, zero)
 
     -- invents ages: one that is not the definition's, of any signal
     pub invents-ages : (x : Request) → Gives x l y → (i age : ℕ) → Between 1 (count (x .list)) i
@@ -99,10 +94,7 @@ module _ (Gives : Routine Request PlanRoom) where
       -- .. or beside any true results another number than theirs
       pub invents-any-slots : (x : Request) (w : Return PlanRoom) → Gives x l y → Gives x l w → w .number ≡ 0
           → w .lent .results ≡ y .lent .results → w .place ≡ y .place
-      invents-any-slots x w g h n e =
-          sym (keeps .accepted x l w h n .used)
-          ∙ ap (λ (r : List ℕ). slotsUsed (x .settings .slots) (count (x .list)) (frameOf (words r))) e
-          ∙ keeps .accepted x l y g z .used
+      invents-any-slots x w g h n e = sym (rw e at (keeps .accepted x l w h n .used)) ∙ keeps .accepted x l y g z .used
 
       -- places the first signal truly and invents the others: the two frames collide
       pub invents-others : Gives (asked twice) l y → y .lent .results ≡ invented → ⊥
@@ -158,28 +150,24 @@ module _ (Gives : Routine (List ℕ) (List ℕ)) (keeps : Demand3 fromBook Gives
 
 -- shows each word in its first byte: an age of 2,516 is none
 pub not-a-byte : (Gives : Routine (List ℕ) (List ℕ)) → Demand2Editor Gives → (book l : List ℕ) (y : Return (List ℕ))
-    → Gives book l y → AllBelow 256 l
-    → (j : ℕ) → getD (y .lent) j 0 ≡ 2516 → ⊥
+    → Gives book l y → AllBelow 256 l → (j : ℕ) → getD (y .lent) j 0 ≡ 2516 → ⊥
 not-a-byte Gives keeps book l y g below j e = omega (arith, keeps .bytes book l y g below j, e)
 
 -- ---- books
 
 -- a reader that refuses all books, as with 1: every row of the book of case 1 holds
 pub refuses-all-books : (Gives : Settings → Routine (List ℕ) (List ℕ)) → Demand1Reading Gives
-    → (s : Settings) (l : List ℕ) (y : Return (List ℕ))
-    → 5 ≤ length l → Gives s case1-book l y → y .number ≡ 0
+    → (s : Settings) (l : List ℕ) (y : Return (List ℕ)) → 5 ≤ length l → Gives s case1-book l y → y .number ≡ 0
 refuses-all-books Gives keeps s l y enough g =
-    let rows : Hold (readingRows case1-book (length l)) =
-    hold-join (bookRows case1-book) (roomRow (signalSize * signalsOf case1-book) (length l) ∷ []) (case1-holds .sound)
-    (omega (arith, case1-holds .signals), tt) in
-    holds-zero (λ p. p ≡ signalsOf case1-book) (y .number) (y .place) (readingRows case1-book (length l)) rows
-    (keeps .numbered case1-book l y (s, g)) .0
+    let last = roomRow (signalSize * signalsOf case1-book) (length l) ∷ [] in
+    holds-zero (λ p. p ≡ signalsOf case1-book) _ _ last (omega (arith, case1-holds .signals))
+    (past last (λ p. p ≡ signalsOf case1-book) _ _ (bookRows case1-book) (case1-holds .sound) (keeps .numbered case1-book l y (s, g))) .0
 
 -- a writer that refuses all lists, as with 4: every row of case 1 holds
 pub refuses-all-values : (Gives : Routine Request (List ℕ)) → Demand1Writing Gives → (l : List ℕ) (y : Return (List ℕ))
     → 1024 ≤ length l → Gives (asked case1) l y → y .number ≡ 0
 refuses-all-values Gives keeps l y enough g =
-    holds-zero (λ p. p ≡ 2) (y .number) (y .place) (writingRows case1 (length l)) (case1-count, (enough, tt))
+    holds-zero (λ p. p ≡ 2) _ _ (writingRows case1 (length l)) (case1-count, (enough, tt))
     (keeps .numbered (asked case1) l y g) .0
 
 -- a reader whose refusals from C come with settings: number 1 and a cycle of 2,500
@@ -187,14 +175,12 @@ pub refuses-with-settings : (Reads : Settings → Routine (List ℕ) (List ℕ))
     → Demand2Books (λ n. (n ≡ 0) ⊎ (n ≡ 10)) Reads Writes → (book l : List ℕ) (y : Return (List ℕ)) → y .number ≡ 1
     → Reads settings book l y → ⊥
 refuses-with-settings Reads Writes keeps book l y e r =
-    let zeros = keeps .zeros-read settings book l y r
-    (λ g. ⊎-elim (λ z. omega (arith, e, z)) (λ t. omega (arith, e, t)) g) in
+    let zeros = keeps .zeros-read settings book l y r (⊎-elim (λ z. omega (arith, e, z)) (λ t. omega (arith, e, t))) in
     omega (arith, ap (λ (s : Settings). s .cycle) zeros)
 
 -- a reader and a writer that both take word 2 for the slot length and word 3 for the cycle length
 module _ (Reads : Settings → Routine (List ℕ) (List ℕ)) (Writes : Routine Request (List ℕ))
-    (keeps : Demand2Books (λ n. n ≡ 0) Reads Writes) (l : List ℕ) (y : Return (List ℕ))
-    (z : y .number ≡ 0) where
+    (keeps : Demand2Books (λ n. n ≡ 0) Reads Writes) (l : List ℕ) (y : Return (List ℕ)) (z : y .number ≡ 0) where
   pub reads-exchanged : Reads (exchanged settings) case1-book l y → ⊥
   reads-exchanged r =
       let read = keeps .settings-read (exchanged settings) case1-book l y r z in

@@ -8,6 +8,7 @@ use native.Mathlib.Omega.{arith}
 use lib.Dec.{lit≤}
 use lib.ListN.{length, getD, drop, replicate, getD-replicate, length-replicate}
 use Rattle.laws.specs.Rows.{FirstRow, Hold}
+use Rattle.laws.proofs.RowLaws.{one-number}
 use Rattle.laws.proofs.LowestLaws.{lowest-not-each}
 use Rattle.laws.proofs.SumLaws.{sum-ext, sum-const}
 use Rattle.book.specs.Words.{byteAt, wordAt, checkOf}
@@ -32,9 +33,7 @@ pub first-row-yes : FirstRow (writingRows case1 0) (λ p. p ≡ 2) 10 1024
 first-row-yes = inr (case1-count, inl ((λ h. omega (arith, h)), refl, refl))
 
 pub first-row-no : FirstRow (writingRows case1 0) (λ p. p ≡ 2) 4 0 → ⊥
-first-row-no (inl (f, e, p)) = f case1-count
-first-row-no (inr (k, inl (f, e, p))) = omega (arith, e)
-first-row-no (inr (k, inr (r, q))) = omega (arith, q .0)
+first-row-no f = omega (arith, one-number (writingRows case1 0) (λ p. p ≡ 2) _ _ _ _ f first-row-yes)
 
 -- ---- what is asked of a book: that of case 1, whose block 1 has its signal, and a block of bytes that are all 1
 
@@ -107,8 +106,7 @@ pub given-back-yes : GivenBack (asked case1) (7 ∷ 7 ∷ 7 ∷ 7 ∷ 7 ∷ 7 �
 given-back-yes = record { accepted = refl; signals = refl; settings = refl; words = refl }
 
 -- a reader that writes over what lies behind
-pub given-back-no :
-    GivenBack (asked case1) (7 ∷ 7 ∷ 7 ∷ 7 ∷ 7 ∷ 7 ∷ []) settings
+pub given-back-no : GivenBack (asked case1) (7 ∷ 7 ∷ 7 ∷ 7 ∷ 7 ∷ 7 ∷ []) settings
     (record { number = 0; place = 1; lent = case1 ++ (0 ∷ []) }) → ⊥
 given-back-no h = omega (arith, ap (λ (l : List ℕ). getD l 5 0) (h .words))
 

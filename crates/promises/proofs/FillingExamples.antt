@@ -1,14 +1,14 @@
 -- The order of filling: the plan of case 10 keeps all its sentences, and for each of them there is a plan that breaks it.
 -- Assumes nothing.
-use mathlib.Core.Path.{_≡_, refl}
+use mathlib.Core.Path.{_≡_, refl, subst}
 use mathlib.Core.List.{List, [], _∷_}
-use mathlib.Core.Logic.{inl, inr}
+use mathlib.Core.Logic.{inl, inr, ⊎-elim, dite}
 use Prim.Native.Nat.{ℕ, zero, suc, _+_, _*_, _<_}
+use native.Mathlib.Decide.{ℕ-discrete}
 use native.Mathlib.Omega.{arith}
 use lib.Dec.{lit≤}
 use Rattle.laws.specs.Lowest.{Between, EachTo}
 use Rattle.terms.specs.declared.Frame.{Frame}
-use Rattle.terms.specs.Ranges.{Repetition}
 use Rattle.terms.specs.Lists.{groupOf}
 use Rattle.cycles.specs.Frames.{Sends}
 use Rattle.filling.specs.Drawn.{Before, InUse, FillingShown}
@@ -41,24 +41,15 @@ before-no (u, inl l) = omega (arith, l)
 before-no (u, inr (e, l)) = omega (arith, e)
 
 at-three : (P : ℕ → Type 0) → P 1 → P 2 → P 3 → EachTo 3 P
-at-three P p q r zero b = absurd (omega (arith, b .0))
-at-three P p q r (suc zero) b = p
-at-three P p q r (suc (suc zero)) b = q
-at-three P p q r (suc (suc (suc zero))) b = r
-at-three P p q r (suc (suc (suc (suc i)))) b = absurd (omega (arith, b .1))
-
-two : Repetition 2
-two = (1, lit≤ tt, refl)
-
-four : Repetition 4
-four = (2, lit≤ tt, refl)
+at-three P p q r i b =
+    dite (ℕ-discrete i 1) (λ e. rw e p) (λ n. dite (ℕ-discrete i 2) (λ e. rw e q) (λ m. subst P (omega arith) r))
 
 -- the frame of repetition 2 in the even cycles, and the first of repetition 4 in cycle 1
 even : (k : ℕ) → Sends (case10 2) 1 (0 + k * 2)
-even k = (refl, record { repetition = two; base = lit≤ tt; again = (k, refl) })
+even k = (refl, record { repetition = (1, lit≤ tt, refl); base = lit≤ tt; again = (k, refl) })
 
 one-first : Sends (case10 1) 1 1
-one-first = (refl, record { repetition = four; base = lit≤ tt; again = (0, refl) })
+one-first = (refl, record { repetition = (2, lit≤ tt, refl); base = lit≤ tt; again = (0, refl) })
 
 pub in-use-yes : InUse 3 case10 1 62
 in-use-yes = (2, (lit≤ tt, lit≤ tt), even 31)
@@ -77,17 +68,16 @@ filling-yes =
     }
   where
     unit : EachTo 3 (λ i. groupOf thrice i ≡ 1)
-    unit = at-three (λ i. groupOf thrice i ≡ 1) refl refl refl
+    unit = at-three _ refl refl refl
 
     slot : EachTo 3 (λ i. case10 i .slot ≡ 1)
-    slot = at-three (λ i. case10 i .slot ≡ 1) refl refl refl
+    slot = at-three _ refl refl refl
 
     Taken : ℕ → ℕ → Type 0
     Taken i c = (j : ℕ) × Between 1 3 j × Before (groupOf thrice) case10 j i × Sends (case10 j) (case10 i .slot) c
 
     first : (c : ℕ) → c < 1 → Taken 1 c
-    first zero l = (2, (lit≤ tt, lit≤ tt), (refl, inl (lit≤ tt)), even 0)
-    first (suc c) l = absurd (omega (arith, l))
+    first c l = subst (Taken 1) (omega (arith, l)) (2, (lit≤ tt, lit≤ tt), (refl, inl (lit≤ tt)), even 0)
 
     third : (c : ℕ) → c < 3 → Taken 3 c
     third zero l = (2, (lit≤ tt, lit≤ tt), (refl, inl (lit≤ tt)), even 0)
@@ -117,12 +107,9 @@ half-left = resultsOf (result 1 0 2 0 ∷ result 2 0 2 0 ∷ result 2 1 2 0 ∷ 
 
 pub full-no : FillingShown 3 (groupOf thrice) (shows half-left) → ⊥
 full-no h =
-    let used = h .full 1 2 1 (lit≤ tt, lit≤ tt) (lit≤ tt, lit≤ tt) (refl, inr (refl, lit≤ tt)) (lit≤ tt) (lit≤ tt) in
-    at-three (λ i. Sends (shows half-left i) 1 1 → ⊥) (λ t. odd (t .1 .again .0) (t .1 .again .1)) (λ t. omega (arith, t .0))
-    (λ t. omega (arith, t .0)) (used .0) (used .1) (used .2)
-  where
-    odd : (k : ℕ) → 1 ≡ 0 + k * 2 → ⊥
-    odd k e = omega (arith, e)
+    let (j, b, sends) = h .full 1 2 1 (lit≤ tt, lit≤ tt) (lit≤ tt, lit≤ tt) (refl, inr (refl, lit≤ tt)) (lit≤ tt) (lit≤ tt) in
+    at-three (λ i. Sends (shows half-left i) 1 1 → ⊥) (λ t. omega (arith, t .1 .again .1)) (λ t. omega (arith, t .0))
+    (λ t. omega (arith, t .0)) j b sends
 
 -- the second cycle, where the first is free
 abbrev late : ℕ → Frame
@@ -130,9 +117,5 @@ late = shows (resultsOf (result 1 1 2 0 ∷ []))
 
 pub first-free-no : FillingShown 1 (groupOf case1) late → ⊥
 first-free-no h =
-    let f = h .first-free 1 0 (lit≤ tt, lit≤ tt) (lit≤ tt) in
-    itself (at-one (λ i. Before (groupOf case1) late i 1 → Before (groupOf case1) late 1 1) (λ b. b) (f .0) (f .1) (f .2))
-  where
-    itself : Before (groupOf case1) late 1 1 → ⊥
-    itself (u, inl l) = omega (arith, l)
-    itself (u, inr (e, l)) = omega (arith, l)
+    let (j, b, before, sends) = h .first-free 1 0 (lit≤ tt, lit≤ tt) (lit≤ tt) in
+    ⊎-elim (λ l. omega (arith, l, at-one (λ i. late i .repetition ≡ 2) refl j b)) (λ e. omega (arith, e .1, b)) (before .1)

@@ -1,24 +1,40 @@
--- Table and clock are one: the starts of a frame are the cycles that its base and repetition name, the 64 cycles of a table
--- coming again for ever.
+-- "Releases fall exactly at offset plus whole periods, for ever." And table and clock are one: the starts of a frame are the
+-- cycles that its base and repetition name, the 64 cycles of a table coming again for ever.
 -- Assumes nothing.
-use mathlib.Core.Path.{_≡_, refl, _∙_, sym, ap}
+use mathlib.Core.Path.{refl, _≡_, _∙_, sym, ap}
+use mathlib.Core.Logic.{dite, _↔_}
 use mathlib.Core.List.{List}
-use mathlib.Core.Logic.{_↔_}
-use Prim.Native.Nat.{ℕ, _+_, _*_, _-_, _/_, _%_, _<_}
-use native.Mathlib.Nat.{mod-add-div', mod-lt}
+use Prim.Native.Nat.{ℕ, suc, _+_, _*_, _≤_, _<_, _-_, _/_, _%_}
+use native.Mathlib.Decide.{decLe}
+use native.Mathlib.Nat.{lt-of-not-le, mul-le-mul-left, mul-le-mul-right, mod-add-div', mod-lt}
 use native.Mathlib.Omega.{arith}
 use lib.Dec.{lit≤}
+use Rattle.laws.specs.Lowest.{Between}
 use Rattle.laws.proofs.RemainderLaws.{same-remainder, splits-remainder}
 use Rattle.terms.specs.declared.Settings.{Settings}
 use Rattle.terms.specs.declared.Frame.{Frame}
-use Rattle.laws.specs.Lowest.{Between}
 use Rattle.terms.specs.Ranges.{Repetition, FrameInRange}
 use Rattle.terms.proofs.RepetitionLaws.{repetition-most, repetition-multiple}
 use Rattle.age.specs.Age.{Start, firstStart, spanOf}
-use Rattle.cycles.proofs.FrameLaws.{named-remainder, remainder-named}
 use Rattle.cycles.specs.Frames.{Sends}
+use Rattle.cycles.proofs.FrameLaws.{named-remainder, remainder-named}
 use Rattle.filling.specs.Shown.{cellOf}
-use Rattle.promises.specs.Demand2.{StartsAt}
+use Rattle.promises.specs.Demand2.{Releases, StartsAt}
+
+pub releases : (offset period : ℕ) → 1 ≤ period → Releases offset period
+releases offset period h =
+    record {
+      first = (0, omega arith);
+      none-before = λ r e. omega (arith, e .1);
+      next = λ r e. (suc (e .0), omega (arith, e .1));
+      none-between = λ r q e f l. omega (arith, e .1, f .1, apart (e .0) (f .0) (omega (arith, e .1, f .1, l)));
+      for-ever = λ t. (offset + t * period, (t, refl), omega (arith, mul-le-mul-left t h));
+    }
+  where
+    apart : (m n : ℕ) → offset + m * period < offset + n * period → offset + m * period + period ≤ offset + n * period
+    apart m n l =
+        dite (decLe n m) (λ k. absurd (omega (arith, mul-le-mul-right period k)))
+        (λ k. omega (arith, mul-le-mul-right period (lt-of-not-le k)))
 
 -- a repetition divides 64, so a cycle and its remainder by 64 leave the same by it
 same-cycle : (R n : ℕ) → Repetition R → n % 64 % R ≡ n % R

@@ -24,10 +24,8 @@ use Rattle.book.proofs.RoundTrips.{write-then-read, read-then-write}
 use Rattle.promises.specs.Calls.{Return, Routine, WhereDone, Plans, PlansList, PlansBook, Reads, ReadsFromC, Writes, WritesFromC}
 use Rattle.promises.specs.Shows.{frameOf, overWords}
 use Rattle.promises.specs.Demand2.{TableShown, Demand2Planning, Demand2Editor, Demand2Books}
-use Rattle.promises.proofs.Accepted.{drawn, ages-shown, plan-accepted}
-use Rattle.promises.proofs.Cells.{table-shown}
-use Rattle.promises.proofs.Lit.{slots-lit}
-use Rattle.promises.proofs.Found.{WordsFound, words-found, list-found, book-found}
+use Rattle.promises.proofs.Accepted.{WordsFound, words-found, list-found, book-found, drawn, ages-shown, plan-accepted}
+use Rattle.promises.proofs.Cells.{slots-lit, table-shown}
 use Rattle.promises.proofs.Demand1.{book-plans, c-reads, read-c-1, c-writes}
 
 -- ---- plans

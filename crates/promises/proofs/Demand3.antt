@@ -28,9 +28,8 @@ use Rattle.promises.specs.Tables.{Table}
 use Rattle.promises.specs.Demand1.{Demand1Planning}
 use Rattle.promises.specs.Demand3.{Ready, Demand3}
 use Rattle.promises.specs.Filling.{ShowsFilling}
-use Rattle.promises.proofs.Accepted.{needed-least, plan-accepted, plan-fills}
+use Rattle.promises.proofs.Accepted.{FoundPlan, WordsFound, words-found, list-found, book-found, needed-least, plan-accepted, plan-fills}
 use Rattle.promises.proofs.Easing.{eased-count, signals-eased, kept-eased, needed-eased}
-use Rattle.promises.proofs.Found.{FoundPlan, WordsFound, words-found, list-found, book-found}
 use Rattle.promises.proofs.Demand1.{plan-1, plan-list-1, plan-book-1}
 
 -- signals in range that keep their bounds and need no more than m slots are accepted with at most m

@@ -26,8 +26,7 @@ use Rattle.promises.specs.Demand2.{Releases, StartsAt, Behind}
 use Rattle.promises.specs.Changes.{RaisedSignal, Eased}
 use Rattle.promises.proofs.Inputs.{settings, fresh, stale, listOf, case1, case3, twice}
 use Rattle.promises.proofs.Named.{fresh-valid, fresh-keeps, stale-gets, one, at-one, slot1, case1-count, settings-words, below-test}
-use Rattle.promises.proofs.Releasing.{releases}
-use Rattle.promises.proofs.Clock.{starts-named}
+use Rattle.promises.proofs.Clock.{releases, starts-named}
 use Rattle.promises.proofs.OnePlan.{one-age}
 
 -- ---- ranges

@@ -1,13 +1,10 @@
 pub mod PlaceLaws
-pub mod Releasing
 pub mod Clock
 pub mod Cells
-pub mod Lit
 pub mod Easing
 pub mod Deciding
 pub mod Every
 pub mod Demand1
-pub mod Found
 pub mod Accepted
 pub mod Demand2
 pub mod Demand3

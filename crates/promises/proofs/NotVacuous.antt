@@ -37,8 +37,7 @@ use Rattle.promises.proofs.Inputs.{settings, asked, fresh, result, case
 use Rattle.promises.proofs.Inputs.{words, case1-results, case1-cells, sixty-four, invented, case1-book}
 use Rattle.promises.proofs.Named.{fresh-valid, fresh-gets, half-gets, fresh-keeps, every, at-one, alone, slot1, slot1-in-range}
 use Rattle.promises.proofs.Named.{case1-table, case1-count, ready, case1-ready, case3-ready, case1-holds}
-use Rattle.promises.proofs.Releasing.{releases}
-use Rattle.promises.proofs.Clock.{starts-named, starts-shown}
+use Rattle.promises.proofs.Clock.{releases, starts-named, starts-shown}
 use Rattle.promises.proofs.Accepted.{needed-least}
 use Rattle.promises.proofs.Examples.{each-yes, kept-no, lowest-signal-yes}
 use Rattle.promises.proofs.Shams.{refuses-all}

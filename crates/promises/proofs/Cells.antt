@@ -31,26 +31,23 @@ module _ (s : Settings) (list : List ℕ) (R : ℕ → ℕ) (entry exit : List �
   -- a frame's own cells show its signal
   cell-shown : (k c i : ℕ) → c < 64 → Between 1 (count list) i → Sends (frame i) k c → cellOf exit k c ≡ i
   cell-shown k c i l b sends =
-      let r = filled-some list R i b in
-      let p = r .0 in
-      let own = subst (λ (j : ℕ). Sends (frame j) k c) (sym (r .2)) sends in
-      cells .holds p k c (r .1) l (subst (λ (f : Frame). Sends f k c) (shows p (r .1)) own) ∙ r .2
+      let (p, m, e) = filled-some list R i b in
+      let own = subst (λ (j : ℕ). Sends (frame j) k c) (sym e) sends in
+      cells .holds p k c m l (subst (λ (f : Frame). Sends f k c) (shows p m) own) ∙ e
 
   place-sends : (k c : ℕ) (p : Placed) → List·Memᴰ p (filled list R) → Sends (p .frame) k c → Sends (frame (p .signal)) k c
   place-sends k c p m = subst (λ (f : Frame). Sends f k c) (sym (shows p m))
 
   -- a cell that shows a signal is its frame's: if it were not, no frame would have it, and it would be 0
   shown-sends : (k c i : ℕ) → Between 1 (s .slots) k → c < 64 → Between 1 (count list) i → cellOf exit k c ≡ i → Sends (frame i) k c
-  shown-sends k c i b l at e = dite (sends-or-not (frame i) (frames i at) k c) (λ sends. sends) (λ n. absurd (not-none n))
-    where
-      not-none : (Sends (frame i) k c → ⊥) → ⊥
-      not-none n =
-          let none : (p : Placed) → List·Memᴰ p (filled list R) → Sends (p .frame) k c → ⊥ =
-          λ p m t.
-          let sends = place-sends k c p m t in
-          let same : p .signal ≡ i = sym (cell-shown k c (p .signal) l (filled-own list R p m .0) sends) ∙ e in
-          n (subst (λ (j : ℕ). Sends (frame j) k c) same sends) in
-          omega (arith, cells .empty k c b l none, e, at .0)
+  shown-sends k c i b l own e =
+      dite (sends-or-not (frame i) (frames i own) k c) (λ sends. sends)
+      (λ n.
+      let none : (p : Placed) → List·Memᴰ p (filled list R) → Sends (p .frame) k c → ⊥ =
+      λ p m t.
+      let sends = place-sends k c p m t in
+      n (rw (sym (cell-shown k c (p .signal) l (filled-own list R p m .0) sends) ∙ e) at sends) in
+      absurd (omega (arith, cells .empty k c b l none, e, own .0)))
 
   pub table-shown : TableShown s (count list) frame exit
   table-shown =
@@ -69,10 +66,7 @@ module _ (s : Settings) (m : ℕ) (frame : ℕ → Frame) (cells : List ℕ) (fr
   abbrev inSlot : (k i : ℕ) → ℕ
   inSlot k i = same (frame (1 + i) .slot) (1 + k)
 
-  abbrev lit : ℕ → ℕ
-  lit k = sum (cellOf cells (1 + k)) 64
-
-  lit-taken : (k : ℕ) → k < s .slots → min 1 (lit k) ≡ slotUsed m frame (1 + k)
+  lit-taken : (k : ℕ) → k < s .slots → min 1 (sum (cellOf cells (1 + k)) 64) ≡ slotUsed m frame (1 + k)
   lit-taken k h =
       dite (decLe 1 (sum (inSlot k) m))
       (λ some.
@@ -92,4 +86,4 @@ module _ (s : Settings) (m : ℕ) (frame : ℕ → Frame) (cells : List ℕ) (fr
       omega (arith, sum-zero (cellOf cells (1 + k)) 64 clear))
 
   pub slots-lit : slotsShown (s .slots) cells ≡ slotsUsed (s .slots) m frame
-  slots-lit = sum-ext (λ k. min 1 (lit k)) (λ k. slotUsed m frame (1 + k)) (s .slots) lit-taken
+  slots-lit = sum-ext _ (λ k. slotUsed m frame (1 + k)) (s .slots) lit-taken

@@ -1,5 +1,5 @@
--- What an accepted call has found and shows, over words and of a book in bytes: words that show the filling of a list show an
--- accepted plan, whether they are lent as words or stand in bytes.
+-- What an accepted call has found and shows, over words and of a book in bytes: words that show the filling of a list
+-- show an accepted plan, whether they are lent as words or stand in bytes.
 -- Assumes nothing.
 use mathlib.Core.Path.{_≡_, _∙_, sym, subst}
 use mathlib.Core.List.{List, List·Memᴰ}
@@ -54,8 +54,9 @@ pub record FoundPlan (s : Settings) (list : List ℕ) (place : ℕ) (word : ℕ 
   pub results : EachResult s list (filled list R) word
 
 -- the rows of the signals hold, and the words show the filling
-abbrev found : {s : Settings} {list : List ℕ} {place : ℕ} {word : ℕ → ℕ} → SettingsInRange s → CountInRange list → Hold (signalRows s list)
-    → Needed s list place → (R : ℕ → ℕ) → Repetitions s list R → EachResult s list (filled list R) word → FoundPlan s list place word
+abbrev found : {s : Settings} {list : List ℕ} {place : ℕ} {word : ℕ → ℕ} → SettingsInRange s → CountInRange list
+    → Hold (signalRows s list) → Needed s list place → (R : ℕ → ℕ) → Repetitions s list R
+    → EachResult s list (filled list R) word → FoundPlan s list place word
 found {s} {list} settings whole (signals, (kept, (fits, u))) (Q, q, e) R rule results =
     record {
       settings = settings;
@@ -77,10 +78,12 @@ pub record WordsFound (x : Request) (l : PlanRoom) (place : ℕ) (exit : PlanRoo
 
 pub words-found : WhereDone Plans (λ x l y. WordsFound x l (y .place) (y .lent))
 words-found x l y (a, p, t) z =
-    let (rows, needs) = zero-holds (Needed (x .settings) (x .list)) _ _ (planningRows x l) (planning-numbered x l) (plan-1 .numbered x l y (a, p, t)) z in
+    let (rows, needs) =
+    zero-holds (Needed (x .settings) (x .list)) _ _ (planningRows x l) (planning-numbered x l)
+    (plan-1 .numbered x l y (a, p, t)) z in
     let shown = p .done (sym (t .0) ∙ z) in
     record {
-      found = found (rows .0) (rows .1 .0) (rows .1 .1 .1 .1) needs (shown .R) (shown .repetitions) (shown .results .shown);
+      found = found (rows .0) (rows .1 .0) (rows .1 .1 .1 .1) needs _ (shown .repetitions) (shown .results .shown);
       cells = shown .cells;
       behind = (shown .results .same-length, shown .results .later);
     }
@@ -97,14 +100,14 @@ pub book-found : WhereDone PlansBook (λ book l y. BookFound book l (y .place) (
 book-found book l y g z =
     let bytes = bytesRows (settingsIn book) (listIn book) (length l) in
     let (rows, needs) =
-    zero-holds (Needed (settingsIn book) (listIn book)) _ _ (editorRows book (length l)) (editor-numbered book (length l))
-    (plan-book-1 .numbered book l y g) z in
+    zero-holds (Needed (settingsIn book) (listIn book)) _ _ (editorRows book (length l))
+    (editor-numbered book (length l)) (plan-book-1 .numbered book l y g) z in
     let sound = hold-front (bookRows book) bytes rows in
     let asked = hold-rest (bookRows book) bytes rows in
     let (a, p, t) = book-plans book l y g in
     let shown = p .done (sym (t .0) ∙ z) in
     record {
-      found = found (asked .0) (list-in-range book sound) (asked .1 .1) needs (shown .R) (shown .repetitions) (shown .results);
+      found = found (asked .0) (list-in-range book sound) (asked .1 .1) needs _ (shown .repetitions) (shown .results);
       behind = (shown .same-length, shown .later);
     }
 

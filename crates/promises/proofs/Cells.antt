@@ -25,8 +25,9 @@ use Rattle.promises.specs.Demand2.{TableShown}
 use Rattle.promises.specs.Tables.{slotsShown}
 use Rattle.promises.proofs.Clock.{starts-shown, base-sent}
 
-module _ (s : Settings) (list : List ℕ) (R : ℕ → ℕ) (entry exit : List ℕ) (cells : CellsShow (s .slots) (filled list R) entry exit)
-    (frame : ℕ → Frame) (frames : EachTo (count list) (λ i. FrameInRange (s .slots) (frame i)))
+module _ (s : Settings) (list : List ℕ) (R : ℕ → ℕ) (entry exit : List ℕ)
+    (cells : CellsShow (s .slots) (filled list R) entry exit) (frame : ℕ → Frame)
+    (frames : EachTo (count list) (λ i. FrameInRange (s .slots) (frame i)))
     (shows : (p : Placed) → List·Memᴰ p (filled list R) → frame (p .signal) ≡ p .frame) where
   -- a frame's own cells show its signal
   cell-shown : (k c i : ℕ) → c < 64 → Between 1 (count list) i → Sends (frame i) k c → cellOf exit k c ≡ i
@@ -74,7 +75,8 @@ module _ (s : Settings) (m : ℕ) (frame : ℕ → Frame) (cells : List ℕ) (fr
       let b : Between 1 m (1 + j) = omega arith in
       let (small, sends) = base-sent (frames (1 + j) b) in
       let there =
-      table .shown (1 + k) (frame (1 + j) .base) (1 + j) (omega arith) small b .1 (same-one (frame (1 + j) .slot) (1 + k) here, sends .1) in
+      table .shown (1 + k) (frame (1 + j) .base) (1 + j) (omega arith) small b .1
+      (same-one (frame (1 + j) .slot) (1 + k) here, sends .1) in
       omega (arith, sum-term (cellOf cells (1 + k)) 64 (frame (1 + j) .base) small, there))
       (λ none.
       let clear : (c : ℕ) → c < 64 → cellOf cells (1 + k) c ≡ 0 =
@@ -82,7 +84,8 @@ module _ (s : Settings) (m : ℕ) (frame : ℕ → Frame) (cells : List ℕ) (fr
       table .empty (1 + k) c (omega arith) l .1
       (λ i b sends.
       let own : frame (1 + (i - 1)) .slot ≡ 1 + k = ap (λ (j : ℕ). frame j .slot) (add-sub-of-le (b .0)) ∙ sends .0 in
-      omega (arith, sum-term (inSlot k) m (i - 1) (omega arith), same-equal (frame (1 + (i - 1)) .slot) (1 + k) own)) in
+      let here = sum-term (inSlot k) m (i - 1) (omega arith) in
+      omega (arith, here, same-equal (frame (1 + (i - 1)) .slot) (1 + k) own)) in
       omega (arith, sum-zero (cellOf cells (1 + k)) 64 clear))
 
   pub slots-lit : slotsShown (s .slots) cells ≡ slotsUsed (s .slots) m frame

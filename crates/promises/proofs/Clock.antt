@@ -1,5 +1,5 @@
--- "Releases fall exactly at offset plus whole periods, for ever." And table and clock are one: the starts of a frame are the
--- cycles that its base and repetition name, the 64 cycles of a table coming again for ever.
+-- "Releases fall exactly at offset plus whole periods, for ever." And table and clock are one: the starts of a frame
+-- are the cycles that its base and repetition name, the 64 cycles of a table coming again for ever.
 -- Assumes nothing.
 use mathlib.Core.Path.{refl, _≡_, _∙_, sym, ap}
 use mathlib.Core.Logic.{dite, _↔_}

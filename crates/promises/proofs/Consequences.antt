@@ -12,8 +12,9 @@ use Rattle.planner.specs.Rows.{Needed, planningRows}
 use Rattle.promises.specs.Calls.{Return, Routine, Always}
 use Rattle.promises.specs.Demand1.{Demand1, Demand1Planning}
 
-module _ {Asked Room : Type 0} (rows : Asked → Room → List Row) (done : Asked → ℕ → Type 0) (Gives : Routine Asked Room)
-    (keeps : Demand1 rows done Gives) (x : Asked) (l : Room) (y : Return Room) (g : Gives x l y) where
+module _ {Asked Room : Type 0} (rows : Asked → Room → List Row) (done : Asked → ℕ → Type 0)
+    (Gives : Routine Asked Room) (keeps : Demand1 rows done Gives) (x : Asked) (l : Room) (y : Return Room)
+    (g : Gives x l y) where
   -- a number is given exactly when its row is the first that does not hold
   pub each-number : (n : ℕ) → (y .number ≡ n) ↔ ((p : ℕ) × FirstRow (rows x l) (done x) n p)
   each-number n = (

@@ -79,7 +79,7 @@ module _ (s : Settings) (list : List ℕ) (settings : SettingsInRange s) where
       (λ i b. kept-or-not s (signalAt list i) (record { settings = settings; signal = signals i b })) (λ kept.
       let (R, r) = repetitions-exist signals in
       asked (slotsRow s list) []
-      (map-dec (λ h Q q. omega (arith, h, needed-same s list Q q R r)) (λ all. all R r) (decLe (needed list R) (s .slots)))
+      (map-dec (λ h Q q. omega (arith, h, needed-same s list Q q R r)) (λ all. all R r) (decLe _ (s .slots)))
       (needed list R, (R, r, refl)) (λ h. tt)))
 
 -- 6, and what is asked where it is not given

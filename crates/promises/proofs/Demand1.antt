@@ -19,10 +19,11 @@ use Rattle.book.proofs.WriteLaws.{write-exists}
 use Rattle.promises.proofs.Every.{planned-exists, book-planned-exists}
 use Rattle.promises.proofs.PlaceLaws.{Small, comes-apart, writing-small, reading-small, editor-small}
 
--- what tells the answer of the rows, and changes nothing where it refuses, keeps demand 1 if it always gives something
+-- what tells the answer of the rows, and changes nothing where it refuses, keeps demand 1 if it always gives
 keeps-1 : {Asked Room : Type 0} {rows : Asked → Room → List Row} {done : Asked → ℕ → Type 0} {G : Routine Asked Room}
     → ((x : Asked) (l : Room) → (exit : Room) × (n p : ℕ) × G x l (record { number = n; place = p; lent = exit }))
-    → Always G (λ x l y. (a : Answer) × Answers (rows x l) (done x) a × ((numberOf a ≡ 0 → ⊥) → y .lent ≡ l) × Tells a y)
+    → Always G
+    (λ x l y. (a : Answer) × Answers (rows x l) (done x) a × ((numberOf a ≡ 0 → ⊥) → y .lent ≡ l) × Tells a y)
     → Demand1 rows done G
 keeps-1 {rows} {done} some told =
     record {
@@ -89,9 +90,12 @@ read-c-1 =
     keeps-1 (λ book l.
     let (r, exit, read) = read-exists book l in
     let (s, given) = settings-exists book in
-    let word : (w : ℕ) → SettingAnswered book w (settingWord s w) = λ w. record { settings = s; outcome = given; answer = refl } in
+    let word : (w : ℕ) → SettingAnswered book w (settingWord s w) =
+    λ w. record { settings = s; outcome = given; answer = refl } in
     (exit, _, _, (_, (_, record { reading = r; outcome = read; answer = refl }, (_, word, refl), (refl, refl)))))
-    (λ book l y (s, p). let (q, (r, read, e, t)) = c-reads book l s y p in (r .answer, read .answer, λ n. read .refused n .1, t))
+    (λ book l y (s, p).
+    let (q, (r, read, e, t)) = c-reads book l s y p in
+    (r .answer, read .answer, λ n. read .refused n .1, t))
 
 -- ---- writing
 

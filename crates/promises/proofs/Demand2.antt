@@ -31,7 +31,8 @@ use Rattle.promises.proofs.Demand1.{book-plans, c-reads, read-c-1, c-wr
 -- ---- plans
 
 -- over words, of any routine that finds and shows a plan
-words-2 : {G : Routine Request PlanRoom} → WhereDone G (λ x l y. WordsFound x l (y .place) (y .lent)) → Demand2Planning G
+words-2 : {G : Routine Request PlanRoom} → WhereDone G (λ x l y. WordsFound x l (y .place) (y .lent))
+    → Demand2Planning G
 words-2 {G} finds =
     record {
       ages = λ x l y g z. ages-shown (finds x l y g z .found);
@@ -40,14 +41,16 @@ words-2 {G} finds =
       results-behind = λ x l y g z. finds x l y g z .behind;
       slots = λ x l y g z.
           let f = finds x l y g z .found in
-          slots-lit (x .settings) (count (x .list)) _ (y .lent .cells) (drawn f .frames) (table x l y g z) ∙ plan-accepted f .used;
+          slots-lit (x .settings) (count (x .list)) _ (y .lent .cells) (drawn f .frames) (table x l y g z)
+          ∙ plan-accepted f .used;
     }
   where
-    table : WhereDone G (λ x l y. TableShown (x .settings) (count (x .list)) (frameOf (overWords .word (y .lent))) (y .lent .cells))
+    table : WhereDone G
+        (λ x l y. TableShown (x .settings) (count (x .list)) (frameOf (overWords .word (y .lent))) (y .lent .cells))
     table x l y g z =
         let f = finds x l y g z in
-        table-shown (x .settings) (x .list) (f .found .R) (l .cells) (y .lent .cells) (f .cells) _ (drawn (f .found) .frames)
-        (λ q m. f .found .results q m .frame)
+        table-shown (x .settings) (x .list) (f .found .R) (l .cells) (y .lent .cells) (f .cells) _
+        (drawn (f .found) .frames) (λ q m. f .found .results q m .frame)
 
 pub plan-2 : Demand2Planning Plans
 plan-2 = words-2 words-found
@@ -66,7 +69,8 @@ plan-book-2 =
           dite (ℕ-discrete (numberOf a) 0)
           (λ z.
           let shown = p .done z in
-          dite (decLt j (resultBytes (listIn book))) (shown .bytes j) (λ n. omega (arith, shown .later j (omega arith), below j)))
+          dite (decLt j (resultBytes (listIn book))) (shown .bytes j)
+          (λ n. omega (arith, shown .later j (omega arith), below j)))
           (λ n. rw (p .refused n) (below j));
     }
 
@@ -97,12 +101,13 @@ books-2 =
           };
     }
 
--- from C the settings come word by word: those of a sound book, else five zeros; and it is sound where the number is 0 or 10
+-- from C the settings come word by word: those of a sound book, else five zeros; it is sound where the number is 0 or 10
 module _ (s : Settings) (book l : List ℕ) (y : Return (List ℕ)) (p : ReadsFromC s book l y) where
   c-settings-are : (t : Settings) → ((w : ℕ) → p .2 .1 w .settings ≡ t) → s ≡ t
   c-settings-are t same =
       let (word, told, e) = p .2 in
-      let h : (w : ℕ) → word w ≡ settingWord t w = λ w. told w .answer ∙ ap (λ (t : Settings). settingWord t w) (same w) in
+      let h : (w : ℕ) → word w ≡ settingWord t w =
+      λ w. told w .answer ∙ ap (λ (t : Settings). settingWord t w) (same w) in
       e ∙ λ i. settingsFrom (λ w. h w i)
 
   abbrev last : List Row

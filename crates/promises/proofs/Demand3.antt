@@ -54,7 +54,8 @@ module _ {Asked Room : Type 0} {p : Planning Asked Room} {Gives : Routine Asked 
       let all = sum-le (λ k. slotUsed (count list) frame (1 + k)) (λ k. 1) (s .slots) (λ k l. min-le-left 1 _) in
       accepted-within s list (s .slots) (h .signals)
       (λ i b. (frame i .repetition, t .drawn .frames i b .repetition, t .keeps i b))
-      (λ Q q. omega (arith, needed-least s list Q q frame t, all, sum-const 1 (s .slots))) (omega arith) _ _ (rows x l y g h) .0
+      (λ Q q. omega (arith, needed-least s list Q q frame t, all, sum-const 1 (s .slots))) (omega arith) _ _
+      (rows x l y g h) .0
 
   planning-3 : Demand3 p Gives
   planning-3 =
@@ -68,24 +69,27 @@ module _ {Asked Room : Type 0} {p : Planning Asked Room} {Gives : Routine Asked 
         accepted = λ x l y g z. plan-accepted (found x l y g z);
         eased = λ x l y g z x′ l′ y′ g′ same e enough.
             let s = p .settings x′ in
-            let f = subst (λ (t : Settings). FoundPlan t (p .list x) (y .place) (p .word (y .lent))) (sym same) (found x l y g z) in
+            let f =
+            subst (λ (t : Settings). FoundPlan t (p .list x) (y .place) (p .word (y .lent))) (sym same)
+            (found x l y g z) in
             let signals = signals-eased e s (f .signals) in
             let seven = kept-seven s (p .list x) (f .R) (f .rule) (f .kept) in
             let ready : Ready p x′ l′ =
             record { settings = f .settings; whole = eased-count e (f .whole); signals = signals; enough = enough } in
             accepted-within s (p .list x′) (y .place) signals (kept-eased e s (f .kept))
-            (λ Q q. omega (arith, needed-eased e s (f .R) Q seven (f .rule) q, f .needs)) (omega (arith, f .needs, f .fits)) _ _
-            (rows x′ l′ y′ g′ ready);
+            (λ Q q. omega (arith, needed-eased e s (f .R) Q seven (f .rule) q, f .needs))
+            (omega (arith, f .needs, f .fits)) _ _ (rows x′ l′ y′ g′ ready);
       }
 
 -- ---- the routines: past the rows before those of the signals
 
-words-3 : {G : Routine Request PlanRoom} → Demand1Planning G → WhereDone G (λ x l y. WordsFound x l (y .place) (y .lent))
-    → Demand3 overWords G
+words-3 : {G : Routine Request PlanRoom} → Demand1Planning G
+    → WhereDone G (λ x l y. WordsFound x l (y .place) (y .lent)) → Demand3 overWords G
 words-3 one finds =
     planning-3 (λ x l y g h.
     past (signalRows (x .settings) (x .list)) (Needed (x .settings) (x .list)) _ _
-    (lentRows x (length (l .cells)) (length (l .results))) (h .settings, (h .whole, (h .enough .0, (h .enough .1, tt))))
+    (lentRows x (length (l .cells)) (length (l .results)))
+    (h .settings, (h .whole, (h .enough .0, (h .enough .1, tt))))
     (one .numbered x l y g)) (λ x l y g z. finds x l y g z .found)
 
 pub plan-3 : Demand3 overWords Plans
@@ -99,8 +103,10 @@ plan-book-3 =
     planning-3 (λ book l y g h.
     let s = settingsIn book in
     let list = listIn book in
-    past (signalRows s list) (Needed s list) _ _ (settingRow s ∷ roomRow (resultBytes list) (length l) ∷ []) (h .settings, (h .enough .1, tt))
-    (past (bytesRows s list (length l)) (Needed s list) _ _ (bookRows book) (h .enough .0) (plan-book-1 .numbered book l y g)))
+    past (signalRows s list) (Needed s list) _ _ (settingRow s ∷ roomRow (resultBytes list) (length l) ∷ [])
+    (h .settings, (h .enough .1, tt))
+    (past (bytesRows s list (length l)) (Needed s list) _ _ (bookRows book) (h .enough .0)
+    (plan-book-1 .numbered book l y g)))
     (λ book l y g z. book-found book l y g z .found)
 
 pub plan-fills-3 : ShowsFilling overWords Plans

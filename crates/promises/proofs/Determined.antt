@@ -37,9 +37,10 @@ same d e = d ∙ sym e
 -- ---- one number and one place
 
 -- each row gives one place, so two returns are the same if their rooms are where both are done
-module _ {Asked Room : Type 0} {rows : Asked → Room → List Row} {done : Asked → ℕ → Type 0} {G G′ : Routine Asked Room}
-    (d : Demand1 rows done G) (d′ : Demand1 rows done G′) (x : Asked) (l : Room) (single : Single (rows x l))
-    (one : (p q : ℕ) → done x p → done x q → p ≡ q) (y y′ : Return Room) (g : G x l y) (g′ : G′ x l y′) where
+module _ {Asked Room : Type 0} {rows : Asked → Room → List Row} {done : Asked → ℕ → Type 0}
+    {G G′ : Routine Asked Room} (d : Demand1 rows done G) (d′ : Demand1 rows done G′) (x : Asked) (l : Room)
+    (single : Single (rows x l)) (one : (p q : ℕ) → done x p → done x q → p ≡ q) (y y′ : Return Room) (g : G x l y)
+    (g′ : G′ x l y′) where
   one-return : (y .number ≡ 0 → y′ .number ≡ 0 → y .lent ≡ y′ .lent) → y ≡ y′
   one-return both =
       let (number, place) =
@@ -86,16 +87,17 @@ planning-one G G′ keeps keeps′ x l y y′ g g′ =
     same-room (64 * x .settings .slots) (l .cells) (two .cells-behind x l y g z) (two′ .cells-behind x l y′ g′ z′)
     (one-table (x .settings) (count (x .list)) (one-frame a a′) (two .table x l y g z) (two′ .table x l y′ g′ z′)) in
     let results =
-    same-room (resultSize * count (x .list)) (l .results) (two .results-behind x l y g z) (two′ .results-behind x l y′ g′ z′)
-    (one-words a a′) in
+    same-room (resultSize * count (x .list)) (l .results) (two .results-behind x l y g z)
+    (two′ .results-behind x l y′ g′ z′) (one-words a a′) in
     λ k. planRoom (cells k) (results k))
 
 -- of a book, into lent bytes
-pub editor-one : (G G′ : Routine (List ℕ) (List ℕ)) → EditorKeeps G → EditorKeeps G′ → (book l : List ℕ) → AllBelow 256 l
-    → (y y′ : Return (List ℕ)) → G book l y → G′ book l y′ → y ≡ y′
+pub editor-one : (G G′ : Routine (List ℕ) (List ℕ)) → EditorKeeps G → EditorKeeps G′ → (book l : List ℕ)
+    → AllBelow 256 l → (y y′ : Return (List ℕ)) → G book l y → G′ book l y′ → y ≡ y′
 editor-one G G′ keeps keeps′ book l small y y′ g g′ =
     let list = listIn book in
-    one-return (keeps .one) (keeps′ .one) book l (editor-single book (length l)) (needed-one (settingsIn book) list) y y′ g g′
+    one-return (keeps .one) (keeps′ .one) book l (editor-single book (length l))
+    (needed-one (settingsIn book) list) y y′ g g′
     (λ z z′.
     let two = keeps .two in
     let two′ = keeps′ .two in
@@ -111,7 +113,8 @@ AsWords G H =
     (room : PlanRoom) (w : Return PlanRoom) → H (request (settingsIn book) (listIn book)) room w → w .number ≡ 0
     → (y .place ≡ w .place) × ((p : ℕ) → p < resultSize * count (listIn book) → wordAt (y .lent) p ≡ getD (w .lent .results) p 0))
 
-pub editor-as-words : (G : Routine (List ℕ) (List ℕ)) (H : Routine Request PlanRoom) → EditorKeeps G → PlanningKeeps H → AsWords G H
+pub editor-as-words : (G : Routine (List ℕ) (List ℕ)) (H : Routine Request PlanRoom) → EditorKeeps G → PlanningKeeps H
+    → AsWords G H
 editor-as-words G H keeps keeps′ book l y g z room w h z′ =
     let a = bytes-shown keeps book l y g z in
     let a′ = words-shown keeps′ _ room w h z′ in
@@ -126,15 +129,17 @@ same-settings s s′ h =
     λ w. dite (ℕ-discrete _ _) (λ e. e) (λ n. absurd (h (λ e. n (ap (λ (t : Settings). settingWord t w) e)))) in
     λ k. settingsFrom (λ w. at w k)
 
-module _ (With : ℕ → Type 0) (Reads Reads′ : Settings → Routine (List ℕ) (List ℕ)) (Writes Writes′ : Routine Request (List ℕ))
-    (keeps : BooksKeep With Reads Writes) (keeps′ : BooksKeep With Reads′ Writes′) where
-  pub reading-one : (book l : List ℕ) (s s′ : Settings) (y y′ : Return (List ℕ)) → Reads s book l y → Reads′ s′ book l y′
-      → (s ≡ s′) × (y ≡ y′)
+module _ (With : ℕ → Type 0) (Reads Reads′ : Settings → Routine (List ℕ) (List ℕ))
+    (Writes Writes′ : Routine Request (List ℕ)) (keeps : BooksKeep With Reads Writes)
+    (keeps′ : BooksKeep With Reads′ Writes′) where
+  pub reading-one : (book l : List ℕ) (s s′ : Settings) (y y′ : Return (List ℕ)) → Reads s book l y
+      → Reads′ s′ book l y′ → (s ≡ s′) × (y ≡ y′)
   reading-one book l s s′ y y′ g g′ =
       let here = keeps .books in
       let there = keeps′ .books in
       let returned =
-      one-return (keeps .reading) (keeps′ .reading) book l (reading-single book (length l)) (λ p q. same) y y′ (s, g) (s′, g′)
+      one-return (keeps .reading) (keeps′ .reading) book l (reading-single book (length l)) (λ p q. same) y y′ (s, g)
+      (s′, g′)
       (λ z z′. same (here .list-read s book l y g z) (there .list-read s′ book l y′ g′ z′)) in
       let also = subst (Reads′ s′ book l) (sym returned) g′ in
       let settings : (s ≡ s′ → ⊥) → ⊥ =

@@ -54,8 +54,10 @@ bytes-answerable s list lent = ((λ p w. (Setting p, refl, refl)), (room-answer,
 
 -- rows that are decided and answerable have an answer; room is shown where all hold, else it stays
 outcome-exists : {Room : Type 0} (rows : List Row) (done : ℕ → Type 0) (l : Room) (Shown : Room → Type 0)
-    → Decided rows → Answerable rows → Numbered rows → (Hold rows → (exit : Room) × Shown exit) → ((exit : Room) → Shown exit → (p : ℕ) × done p)
-    → (a : Answer) × (exit : Room) × Answers rows done a × ((numberOf a ≡ 0 → ⊥) → exit ≡ l) × (numberOf a ≡ 0 → Shown exit)
+    → Decided rows → Answerable rows → Numbered rows → (Hold rows → (exit : Room) × Shown exit)
+    → ((exit : Room) → Shown exit → (p : ℕ) × done p)
+    → (a : Answer) × (exit : Room) × Answers rows done a × ((numberOf a ≡ 0 → ⊥) → exit ≡ l)
+    × (numberOf a ≡ 0 → Shown exit)
 outcome-exists rows done l Shown decided answerable numbered show place =
     let (n, p, first) = first-row rows done decided (λ h. let e = show h in place (e .0) (e .1)) in
     let (a, f) = answer-exists rows done n p answerable first in
@@ -80,8 +82,9 @@ plan-exists s list lent settings (signals, (kept, (fits, u))) cells results =
 pub planned-exists : (x : Request) (l : PlanRoom) → (a : Answer) × (exit : PlanRoom) × Planned x l a exit
 planned-exists x l =
     let (a, exit, f, refused, done) =
-    outcome-exists (planningRows x l) (Needed (x .settings) (x .list)) l (PlanShown x l) (planning-decided x l) (planning-answerable x l)
-    (planning-numbered x l) (λ h. plan-exists (x .settings) (x .list) l (h .0) (h .1 .1 .1 .1) (h .1 .1 .0) (h .1 .1 .1 .0))
+    outcome-exists (planningRows x l) (Needed (x .settings) (x .list)) l (PlanShown x l) (planning-decided x l)
+    (planning-answerable x l) (planning-numbered x l)
+    (λ h. plan-exists (x .settings) (x .list) l (h .0) (h .1 .1 .1 .1) (h .1 .1 .0) (h .1 .1 .1 .0))
     (λ exit shown. (_, (shown .R, shown .repetitions, refl))) in
     (a, exit, record { answer = f; refused = refused; done = done })
 
@@ -112,7 +115,8 @@ module _ (book l : List ℕ) where
   pub book-planned-exists : (a : Answer) × (exit : List ℕ) × BookPlanned book l a exit
   book-planned-exists =
       let bytes = bytesRows s list (length l) in
-      let answerable = answerable-join (bookRows book) bytes (book-answerable book) (bytes-answerable s list (length l)) in
+      let answerable =
+      answerable-join (bookRows book) bytes (book-answerable book) (bytes-answerable s list (length l)) in
       let (a, exit, f, refused, done) =
       outcome-exists (editorRows book (length l)) (Needed s list) l (BytesShown book l) editor-decided answerable
       (editor-numbered book (length l)) (λ h. bytes-exist (hold-rest (bookRows book) bytes h))

@@ -183,7 +183,8 @@ starts-yes = (65, 7, (refl, record { repetition = (2, lit≤ tt, refl); base = l
 
 pub starts-no : StartsAt settings (Sends slot7) 162597 → ⊥
 starts-no at =
-    let in-range : FrameInRange 93 slot7 = record { slot = omega arith; repetition = names-yes .repetition; base = lit≤ tt } in
+    let in-range : FrameInRange 93 slot7 =
+    record { slot = omega arith; repetition = names-yes .repetition; base = lit≤ tt } in
     omega (arith, starts-named settings slot7 in-range 162597 .1 at .1)
 
 pub behind-yes : Behind 1 (5 ∷ 6 ∷ []) (7 ∷ 6 ∷ [])
@@ -213,7 +214,8 @@ raised-no-past h = omega (arith, h .most)
 
 -- the first signal struck, and the second's bound raised
 pub eased-yes : Eased easedFrom case1
-eased-yes = record { whole = refl; was = suc; rising = omega arith; within = omega arith; raised = at-one _ raised-yes }
+eased-yes =
+    record { whole = refl; was = suc; rising = omega arith; within = omega arith; raised = at-one _ raised-yes }
 
 -- a bound lowered
 pub eased-no-lower : Eased case1 lower → ⊥

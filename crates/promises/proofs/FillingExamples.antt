@@ -107,7 +107,8 @@ half-left = resultsOf (result 1 0 2 0 ∷ result 2 0 2 0 ∷ result 2 1 2 0 ∷ 
 
 pub full-no : FillingShown 3 (groupOf thrice) (shows half-left) → ⊥
 full-no h =
-    let (j, b, sends) = h .full 1 2 1 (lit≤ tt, lit≤ tt) (lit≤ tt, lit≤ tt) (refl, inr (refl, lit≤ tt)) (lit≤ tt) (lit≤ tt) in
+    let (j, b, sends) =
+    h .full 1 2 1 (lit≤ tt, lit≤ tt) (lit≤ tt, lit≤ tt) (refl, inr (refl, lit≤ tt)) (lit≤ tt) (lit≤ tt) in
     at-three (λ i. Sends (shows half-left i) 1 1 → ⊥) (λ t. omega (arith, t .1 .again .1)) (λ t. omega (arith, t .0))
     (λ t. omega (arith, t .0)) j b sends
 
@@ -118,4 +119,5 @@ late = shows (resultsOf (result 1 1 2 0 ∷ []))
 pub first-free-no : FillingShown 1 (groupOf case1) late → ⊥
 first-free-no h =
     let (j, b, before, sends) = h .first-free 1 0 (lit≤ tt, lit≤ tt) (lit≤ tt) in
-    ⊎-elim (λ l. omega (arith, l, at-one (λ i. late i .repetition ≡ 2) refl j b)) (λ e. omega (arith, e .1, b)) (before .1)
+    ⊎-elim (λ l. omega (arith, l, at-one (λ i. late i .repetition ≡ 2) refl j b)) (λ e. omega (arith, e .1, b))
+    (before .1)

@@ -69,7 +69,8 @@ ready-book-yes =
       settings = rw (case1-holds .settings-in) (fresh-valid .settings);
       whole = rw (case1-holds .list-in) case1-count;
       signals = rw (case1-holds .settings-in, case1-holds .list-in) each-yes;
-      enough = (case1-holds .sound, omega (arith, ap count (case1-holds .list-in), length-replicate {A = ℕ} (4 * resultSize) 0));
+      enough =
+          (case1-holds .sound, omega (arith, ap count (case1-holds .list-in), length-replicate {A = ℕ} (4 * resultSize) 0));
     }
 
 -- ---- the plan of case 1
@@ -92,7 +93,8 @@ pub age-shown-no : (age : ℕ) → AgeShown settings fresh (result 94 0 1 age) �
 age-shown-no age h = omega (arith, h .frame .slot)
 
 -- slot 1 shows signal 1 in every cycle, and the others nothing
-cell : (k c : ℕ) → Between 1 93 k → c < 64 → ((k ≡ 1) × (cellOf case1-cells k c ≡ 1)) ⊎ ((k ≡ 1 → ⊥) × (cellOf case1-cells k c ≡ 0))
+cell : (k c : ℕ) → Between 1 93 k → c < 64
+    → ((k ≡ 1) × (cellOf case1-cells k c ≡ 1)) ⊎ ((k ≡ 1 → ⊥) × (cellOf case1-cells k c ≡ 0))
 cell k c b l =
     let long = length-replicate {A = ℕ} 64 1 in
     dite (ℕ-discrete k 1)
@@ -171,7 +173,8 @@ accepted-yes =
     }
 
 -- repetition 64, over the bound; and two slots claimed
-pub accepted-no-64 : (place : ℕ) → AcceptedPlan settings case1 place (frameOf (words sixty-four)) (ageOf (words sixty-four)) → ⊥
+pub accepted-no-64 : (place : ℕ)
+    → AcceptedPlan settings case1 place (frameOf (words sixty-four)) (ageOf (words sixty-four)) → ⊥
 accepted-no-64 place h = omega (arith, h .bounds 1 (lit≤ tt, lit≤ tt))
 
 pub accepted-no-two : AcceptedPlan settings case1 2 frame (ageOf (words case1-results)) → ⊥
@@ -179,12 +182,14 @@ accepted-no-two h = omega (arith, h .used, accepted-yes .used)
 
 -- ---- cases 1, 3 and 12, of every routine that keeps the demands
 
-module _ (Gives : Routine Request PlanRoom) (l : PlanRoom) (y : Return PlanRoom) (cells : 5952 ≤ length (l .cells)) where
+module _ (Gives : Routine Request PlanRoom) (l : PlanRoom) (y : Return PlanRoom)
+    (cells : 5952 ≤ length (l .cells)) where
   -- case 1 is accepted, in one slot
   pub case1-accepted : Demand3 overWords Gives → resultSize ≤ length (l .results) → Gives (asked case1) l y
       → (y .number ≡ 0) × (y .place ≡ 1)
   case1-accepted keeps results g =
-      let number = dite (ℕ-discrete (y .number) 0) (λ e. e) (λ n. absurd (refuses-all Gives keeps l y cells results g n)) in
+      let number =
+      dite (ℕ-discrete (y .number) 0) (λ e. e) (λ n. absurd (refuses-all Gives keeps l y cells results g n)) in
       let a = keeps .accepted (asked case1) l y g number in
       (number, omega (arith, a .fewest (λ i. slot1) case1-table, uses-one, one-least _ (a .table), a .used))
 

@@ -87,9 +87,11 @@ module _ (slots m : ℕ) (group : ℕ → ℕ) where
     cell = base-sent (a .drawn .frames i own)
 
     -- a frame that goes before i in the second is not in i's cell in the first
-    not-both : (j : ℕ) {k : ℕ} → Own j → Before group frame′ j i → frame i .slot ≡ k → Sends (frame′ j) k (frame i .base) → ⊥
+    not-both : (j : ℕ) {k : ℕ} → Own j → Before group frame′ j i → frame i .slot ≡ k
+        → Sends (frame′ j) k (frame i .base) → ⊥
     not-both j here b e sends =
-        let both = a .drawn .apart j i _ _ here own (cell .0) (rw (← before j here (inr b)) at sends) (e, cell .1 .1) in
+        let both =
+        a .drawn .apart j i _ _ here own (cell .0) (rw (← before j here (inr b)) at sends) (e, cell .1 .1) in
         not-itself frame′ j i both b
 
     -- in the second, a frame of i's unit in a lower slot goes before i: `onward`
@@ -133,7 +135,8 @@ module _ (slots m : ℕ) (group : ℕ → ℕ) where
         let slot : frame i .slot ≡ frame′ i .slot =
         omega (arith, no-lower-slot frame frame′ a a′ i own there, no-lower-slot frame′ frame a′ a i own back) in
         let base : frame i .base ≡ frame′ i .base =
-        omega (arith, no-lower-base frame frame′ a a′ i own there slot, no-lower-base frame′ frame a′ a i own back (sym slot)) in
+        let not-below = no-lower-base frame frame′ a a′ i own there slot in
+        omega (arith, not-below, no-lower-base frame′ frame a′ a i own back (sym slot)) in
         λ k. record { slot = slot k; base = base k; repetition = same-repetition i own k }
 
     -- the order of filling: by unit, by repetition, by place in the list
@@ -163,7 +166,8 @@ pub record ShownPlan (s : Settings) (list : List ℕ) (place : ℕ) (word : ℕ 
   pub filling : FillingShown (count list) (groupOf list) (frameOf word)
   pub ages : EachTo (count list) (λ i. AgeShown s (signalAt list i) (resultAt word i))
 
-module _ {s : Settings} {list : List ℕ} {p p′ : ℕ} {word word′ : ℕ → ℕ} (a : ShownPlan s list p word) (a′ : ShownPlan s list p′ word′) where
+module _ {s : Settings} {list : List ℕ} {p p′ : ℕ} {word word′ : ℕ → ℕ} (a : ShownPlan s list p word)
+    (a′ : ShownPlan s list p′ word′) where
   -- each uses the fewest slots of any
   pub one-place : p ≡ p′
   one-place =
@@ -176,7 +180,8 @@ module _ {s : Settings} {list : List ℕ} {p p′ : ℕ} {word word′ : ℕ →
 
   one-result : EachTo (count list) (λ i. resultAt word i ≡ resultAt word′ i)
   one-result i b =
-      let moved = subst (λ (g : Frame). Age s (signalAt list i) g (ageOf word i)) (one-frame i b) (a .ages i b .is-age) in
+      let moved =
+      subst (λ (g : Frame). Age s (signalAt list i) g (ageOf word i)) (one-frame i b) (a .ages i b .is-age) in
       let age = one-age s (signalAt list i) (frameOf word′ i) moved (a′ .ages i b .is-age) in
       λ k. record { frame = one-frame i b k; age = age k }
 
@@ -190,8 +195,9 @@ module _ {s : Settings} {list : List ℕ} {p p′ : ℕ} {word word′ : ℕ →
 
 -- ---- one table of cells
 
-module _ (s : Settings) (m : ℕ) {frame frame′ : ℕ → Frame} {cells cells′ : List ℕ} (same : EachTo m (λ i. frame i ≡ frame′ i))
-    (t : TableShown s m frame cells) (t′ : TableShown s m frame′ cells′) where
+module _ (s : Settings) (m : ℕ) {frame frame′ : ℕ → Frame} {cells cells′ : List ℕ}
+    (same : EachTo m (λ i. frame i ≡ frame′ i)) (t : TableShown s m frame cells)
+    (t′ : TableShown s m frame′ cells′) where
   -- if a cell were not the same in both, no frame would have it, and it would be 0 in both
   one-cell : (k c : ℕ) → Between 1 (s .slots) k → c < 64 → cellOf cells k c ≡ cellOf cells′ k c
   one-cell k c b l =

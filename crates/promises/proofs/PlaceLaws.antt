@@ -47,7 +47,8 @@ module _ (book : List ℕ) (lent n p : ℕ) where
   reading-small =
       let last = roomRow (signalSize * signalsOf book) lent ∷ [] in
       small-place last (λ q. q ≡ signalsOf book) n p (bookRows book) (omega arith) (λ h.
-      small-place [] (λ q. q ≡ signalsOf book) n p last (omega (arith, sound-count book h)) (λ r f. omega (arith, sound-count book h)))
+      small-place [] (λ q. q ≡ signalsOf book) n p last (omega (arith, sound-count book h))
+      (λ r f. omega (arith, sound-count book h)))
 
   pub editor-small : FirstRow (editorRows book lent) (Needed (settingsIn book) (listIn book)) n p → Small p
   editor-small =

@@ -67,7 +67,8 @@ module _ (Gives : Routine Request PlanRoom) where
     pub invents-ages : (x : Request) → Gives x l y → (i age : ℕ) → Between 1 (count (x .list)) i
         → Age (x .settings) (signalAt (x .list) i) (frameOf (overWords .word (y .lent)) i) age
         → ageOf (overWords .word (y .lent)) i ≡ age
-    invents-ages x g i age b true-age = one-age (x .settings) (signalAt (x .list) i) _ (keeps .ages x l y g z i b .is-age) true-age
+    invents-ages x g i age b true-age =
+        one-age (x .settings) (signalAt (x .list) i) _ (keeps .ages x l y g z i b .is-age) true-age
 
   -- ---- what breaks demand 3
 
@@ -94,7 +95,8 @@ module _ (Gives : Routine Request PlanRoom) where
       -- .. or beside any true results another number than theirs
       pub invents-any-slots : (x : Request) (w : Return PlanRoom) → Gives x l y → Gives x l w → w .number ≡ 0
           → w .lent .results ≡ y .lent .results → w .place ≡ y .place
-      invents-any-slots x w g h n e = sym (rw e at (keeps .accepted x l w h n .used)) ∙ keeps .accepted x l y g z .used
+      invents-any-slots x w g h n e =
+          sym (rw e at (keeps .accepted x l w h n .used)) ∙ keeps .accepted x l y g z .used
 
       -- places the first signal truly and invents the others: the two frames collide
       pub invents-others : Gives (asked twice) l y → y .lent .results ≡ invented → ⊥
@@ -129,8 +131,8 @@ often-true = age-test settings half (frameOf (words often) 1) 16 .1 tt .1
 
 -- ---- from the editor: of the book of `pair`
 
-module _ (Gives : Routine (List ℕ) (List ℕ)) (keeps : Demand3 fromBook Gives) (l : List ℕ) (y : Return (List ℕ)) (z : y .number ≡ 0)
-    (g : Gives pair-book l y) where
+module _ (Gives : Routine (List ℕ) (List ℕ)) (keeps : Demand3 fromBook Gives) (l : List ℕ) (y : Return (List ℕ))
+    (z : y .number ≡ 0) (g : Gives pair-book l y) where
   shown-plan : (bytes : List ℕ) → y .lent ≡ bytes
       → AcceptedPlan settings pair (y .place) (frameOf (wordAt bytes)) (ageOf (wordAt bytes))
   shown-plan bytes e = rw (pair-holds .settings-in, pair-holds .list-in, e) at (keeps .accepted pair-book l y g z)
@@ -161,7 +163,8 @@ pub refuses-all-books : (Gives : Settings → Routine (List ℕ) (List ℕ)) →
 refuses-all-books Gives keeps s l y enough g =
     let last = roomRow (signalSize * signalsOf case1-book) (length l) ∷ [] in
     holds-zero (λ p. p ≡ signalsOf case1-book) _ _ last (omega (arith, case1-holds .signals))
-    (past last (λ p. p ≡ signalsOf case1-book) _ _ (bookRows case1-book) (case1-holds .sound) (keeps .numbered case1-book l y (s, g))) .0
+    (past last (λ p. p ≡ signalsOf case1-book) _ _ (bookRows case1-book) (case1-holds .sound)
+    (keeps .numbered case1-book l y (s, g))) .0
 
 -- a writer that refuses all lists, as with 4: every row of case 1 holds
 pub refuses-all-values : (Gives : Routine Request (List ℕ)) → Demand1Writing Gives → (l : List ℕ) (y : Return (List ℕ))
@@ -175,7 +178,8 @@ pub refuses-with-settings : (Reads : Settings → Routine (List ℕ) (List ℕ))
     → Demand2Books (λ n. (n ≡ 0) ⊎ (n ≡ 10)) Reads Writes → (book l : List ℕ) (y : Return (List ℕ)) → y .number ≡ 1
     → Reads settings book l y → ⊥
 refuses-with-settings Reads Writes keeps book l y e r =
-    let zeros = keeps .zeros-read settings book l y r (⊎-elim (λ z. omega (arith, e, z)) (λ t. omega (arith, e, t))) in
+    let zeros =
+    keeps .zeros-read settings book l y r (⊎-elim (λ z. omega (arith, e, z)) (λ t. omega (arith, e, t))) in
     omega (arith, ap (λ (s : Settings). s .cycle) zeros)
 
 -- a reader and a writer that both take word 2 for the slot length and word 3 for the cycle length

@@ -101,7 +101,7 @@ books-2 =
           };
     }
 
--- from C the settings come word by word: those of a sound book, else five zeros; it is sound where the number is 0 or 10
+-- settings from C come word by word: those of a sound book, else five zeros; it is sound where the number is 0 or 10
 module _ (s : Settings) (book l : List ℕ) (y : Return (List ℕ)) (p : ReadsFromC s book l y) where
   c-settings-are : (t : Settings) → ((w : ℕ) → p .2 .1 w .settings ≡ t) → s ≡ t
   c-settings-are t same =

@@ -46,9 +46,9 @@ module _ {Asked Room : Type 0} {p : Planning Asked Room} {Gives : Routine Asked 
     (λ x l y. Ready p x l → FirstRow (signalRows (p .settings x) (p .list x)) (Needed (p .settings x) (p .list x)) (y .number) (y .place)))
     (found : WhereDone Gives (λ x l y. FoundPlan (p .settings x) (p .list x) (y .place) (p .word (y .lent)))) where
   -- where there is a table, the call is accepted
-  accepted-with : Always Gives
+  accepts : Always Gives
       (λ x l y. Ready p x l → (frame : ℕ → Frame) → Table (p .settings x) (p .list x) frame → y .number ≡ 0)
-  accepted-with x l y g h frame t =
+  accepts x l y g h frame t =
       let s = p .settings x in
       let list = p .list x in
       let all = sum-le (λ k. slotUsed (count list) frame (1 + k)) (λ k. 1) (s .slots) (λ k l. min-le-left 1 _) in
@@ -61,9 +61,9 @@ module _ {Asked Room : Type 0} {p : Planning Asked Room} {Gives : Routine Asked 
   planning-3 =
       record {
         refused-exactly = λ x l y g h.
-            ((λ n frame t. n (accepted-with x l y g h frame t)), λ none z. none _ (plan-accepted (found x l y g z) .table));
+            ((λ n frame t. n (accepts x l y g h frame t)), λ none z. none _ (plan-accepted (found x l y g z) .table));
         refused-strictly = λ x l y g h. (
-          (λ n frame t r. n (accepted-with x l y g h frame t)),
+          (λ n frame t r. n (accepts x l y g h frame t)),
           λ none z. let a = plan-accepted (found x l y g z) in none _ (a .table) (a .rule),
         );
         accepted = λ x l y g z. plan-accepted (found x l y g z);

@@ -69,8 +69,7 @@ ready-book-yes =
       settings = rw (case1-holds .settings-in) (fresh-valid .settings);
       whole = rw (case1-holds .list-in) case1-count;
       signals = rw (case1-holds .settings-in, case1-holds .list-in) each-yes;
-      enough =
-          (case1-holds .sound, omega (arith, ap count (case1-holds .list-in), length-replicate {A = ℕ} (4 * resultSize) 0));
+      enough = (case1-holds .sound, omega (arith, ap count (case1-holds .list-in), length-replicate {A = ℕ} 16 0));
     }
 
 -- ---- the plan of case 1

@@ -31,7 +31,7 @@ use Rattle.filling.proofs.GroupLaws.Untroubled.{goes as goes-well}
 use Rattle.filling.proofs.LoadLaws.{needed-most}
 use Rattle.filling.proofs.FilledLaws.{before, load, states, frames}
 use Rattle.filling.proofs.FilledLaws.{filled-own, filled-only, filled-untroubled, filled-range, filled-apart}
-use Rattle.filling.proofs.GatherLaws.{in-order-length}
+use Rattle.filling.proofs.OrderLaws.{in-order-length}
 use Rattle.filling.proofs.StepLaws.{start-holds}
 use Rattle.filling.proofs.ShowLaws.{cells-more, results-more}
 

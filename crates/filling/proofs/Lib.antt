@@ -12,7 +12,6 @@ pub mod Beside
 pub mod TurnLaws
 pub mod Turning
 pub mod Tallying
-pub mod GatherLaws
 pub mod OrderedLaws
 pub mod Gathering
 pub mod StepLaws

@@ -21,7 +21,7 @@ use Rattle.filling.specs.Ordered.{ordered}
 use Rattle.filling.specs.Runs.{Placed, State, start}
 use Rattle.filling.specs.Filled.{groupLoad, slotsBefore, needed, framesFrom, filled}
 use Rattle.filling.proofs.OrderLaws.{InTurn, two-in-turn, sooner-apart, ordered-total, ordered-from, ordered-in}
-use Rattle.filling.proofs.OrderLaws.{OwnFrame, frames-own, frames-in, frames-total, order-sooner}
+use Rattle.filling.proofs.OrderLaws.{OwnFrame, frames-own, frames-in, frames-total, order-sooner, order-seven}
 use Rattle.filling.proofs.RunLaws.{Good, start-good}
 use Rattle.filling.proofs.CellLaws.{Past}
 use Rattle.filling.proofs.GroupLaws.{loadOf, last, Untroubled, untroubled}
@@ -89,10 +89,7 @@ module _ (list : List ℕ) (R : ℕ → ℕ) where
         (λ g. subst (λ (n : ℕ). Good 1 (before g) (load g) n (states g)) (sym (all-load g)) (start-good 1 _ _))
       where
         each : (f : UnitFrame) → List·Memᴰ f frames → Repetition (f .repetition) × (1 ≤ f .repetition)
-        each f a =
-            let o = frames-own R m 1 (ordered-from (framesFrom R m 1) a) in
-            let r = subst Repetition (sym (o .given)) (seven (f .signal) (o .low, omega (arith, o .high))) in
-            (r, repetition-positive (f .repetition) r)
+        each f a = let r = order-seven R m seven f a in (r, repetition-positive (f .repetition) r)
 
     -- ---- in the slots needed
 

@@ -4,14 +4,13 @@ use mathlib.Core.Path.{_≡_, refl, sym, ap, subst, _∙_}
 use mathlib.Core.List.{List}
 use mathlib.Core.Logic.{dite}
 use Prim.Native.Nat.{ℕ, _+_, _*_, _-_, _/_, _≤_, _<_}
-use native.Mathlib.Numerals.{add-one}
 use native.Mathlib.Decide.{ℕ-discrete}
 use native.Mathlib.Omega.{arith}
 use borrow.Author.Count.{below-more}
 use lib.ListN.{length, getD, set, replicate, length-set, length-replicate, getD-replicate}
 use lib.Seq.{getD-set-same, getD-set-other}
 use Rattle.laws.specs.Sums.{sum, same}
-use Rattle.laws.proofs.SumLaws.{same-equal, same-apart}
+use Rattle.laws.proofs.SumLaws.{same-equal, same-apart, sum-none, sum-more}
 use Rattle.terms.specs.Ranges.{Repetition}
 use Rattle.terms.specs.Lists.{groups}
 use Rattle.cycles.specs.Loads.{mostLoad, Tallied, slotsFor}
@@ -19,14 +18,6 @@ use Rattle.cycles.specs.Loads.Tallied.{added, past, other}
 use Rattle.filling.specs.Filled.{groupLoad, slotsBefore}
 use Rattle.filling.specs.Outcomes.{repetitionIn}
 use Rattle.filling.proofs.LoadLaws.{load-most, needed-most}
-
-sum-none : (f : ℕ → ℕ) → sum f 0 ≡ 0
-unfolding sum
-sum-none f = refl
-
-sum-next : (f : ℕ → ℕ) (n : ℕ) → sum f (n + 1) ≡ sum f n + f n
-unfolding sum
-sum-next f n = ap (sum f) (add-one n)
 
 -- the repetition of signal 1 + i is word i
 pub repetition-at : (words : List ℕ) (i : ℕ) → repetitionIn words (1 + i) ≡ getD words i 0
@@ -66,7 +57,7 @@ module _ (group R : ℕ → ℕ) (m : ℕ) where
         its-load : getD (set loads g load) g 0 ≡ groupLoad group R (i + 1) g
         its-load =
             let old = t .tallied g here in
-            let next = sum-next (share g) i in
+            let next = sum-more (share g) i in
             let one = ap (λ (n : ℕ). n * (64 / R (1 + i))) (same-equal (group (1 + i)) g own) in
             getD-set-same loads g load 0 (omega (arith, t .whole))
             ∙ tallied-added more seven (omega (arith, load-most group R (i + 1) g))
@@ -75,7 +66,7 @@ module _ (group R : ℕ → ℕ) (m : ℕ) where
         others : (k : ℕ) → k < groups → (k ≡ g → ⊥) → getD (set loads g load) k 0 ≡ groupLoad group R (i + 1) k
         others k l n =
             let none = ap (λ (x : ℕ). x * (64 / R (1 + i))) (same-apart (group (1 + i)) k (λ e. n (sym e ∙ own))) in
-            getD-set-other loads g k load 0 n ∙ t .tallied k l ∙ omega (arith, sum-next (share k) i)
+            getD-set-other loads g k load 0 n ∙ t .tallied k l ∙ omega (arith, sum-more (share k) i)
 
         pub tallying-next : Tallying (set loads g load) (i + 1)
         tallying-next =
@@ -126,7 +117,7 @@ module _ (group R : ℕ → ℕ) (m : ℕ) where
               below-more (λ (k : ℕ). getD (set begun g needed) k 0 ≡ slotsBefore group R m k) g
               (λ k l. getD-set-other begun g k needed 0 (λ q. omega arith) ∙ b .before k l)
               (getD-set-same begun g needed 0 (omega (arith, b .whole)) ∙ b .next);
-          next = omega (arith, b .next, sum-next (λ k. slotsFor (groupLoad group R m k)) g);
+          next = omega (arith, b .next, sum-more (λ k. slotsFor (groupLoad group R m k)) g);
         }
 
     pub beginning-all : groups ≤ g

@@ -7,10 +7,9 @@ use mathlib.Core.List.{List·Memᴰ, List·Memᴰ·head, List·Memᴰ·tail, Lis
 use mathlib.Core.Logic.{⊎-elim, dite}
 use Prim.Native.Nat.{ℕ, zero, suc, _+_, _*_, _-_, _/_, _%_, _≤_, _<_}
 use native.Mathlib.Decide.{map-dec}
+use native.Mathlib.Numerals.{add-one}
 use native.Mathlib.Omega.{arith}
-use borrow.Author.Count.{below-more}
-use lib.ListN.{length, getD, set, length-set}
-use lib.Seq.{getD-set-same, getD-set-other}
+use lib.ListN.{length, getD, set}
 use Rattle.laws.specs.Lowest.{Between, EachTo}
 use Rattle.terms.specs.declared.Settings.{Settings}
 use Rattle.terms.specs.declared.Result.{Result}
@@ -25,37 +24,18 @@ use Rattle.cycles.proofs.FrameLaws.{sends-or-not}
 use Rattle.filling.specs.Runs.{Placed}
 use Rattle.filling.specs.Filled.{needed, filled}
 use Rattle.filling.specs.Shown.{cellOf, CellsShow, ResultOf, ResultsShow}
+use Rattle.filling.proofs.ShowLaws.{Front, front-none, front-next}
 use Rattle.filling.proofs.FilledLaws.{In, filled-own, filled-some, filled-only, filled-range, filled-apart}
 
 -- ---- a list made word by word
 
--- each of the first n words is as P asks, and all from n on are as they were
-record Front (n : ℕ) (P : ℕ → ℕ → Type 0) (entry exit : List ℕ) : Type 0 where
-  same-length : length exit ≡ length entry
-  first : (j : ℕ) → j < n → P j (getD exit j 0)
-  later : (j : ℕ) → n ≤ j → getD exit j 0 ≡ getD entry j 0
-
 front-exists : (n : ℕ) (P : ℕ → ℕ → Type 0) (entry : List ℕ) → n ≤ length entry
-    → ((j : ℕ) → j < n → (x : ℕ) × P j x) → (exit : List ℕ) × Front n P entry exit
-front-exists zero P entry h some =
-    (entry, record { same-length = refl; first = λ j l. absurd (omega arith); later = λ j l. refl })
+    → ((j : ℕ) → j < n → (x : ℕ) × P j x) → (exit : List ℕ) × Front P entry exit n
+front-exists zero P entry h some = (entry, front-none P entry)
 front-exists (suc n) P entry h some =
     let r = front-exists n P entry (omega arith) (λ j l. some j (omega arith)) in
-    let was = r .0 in
     let x = some n (omega arith) in
-    let here = getD-set-same was n (x .0) 0 (omega (arith, r .1 .same-length)) in
-    let others : (j : ℕ) → (j ≡ n → ⊥) → getD (set was n (x .0)) j 0 ≡ getD was j 0 =
-    λ j. getD-set-other was n j (x .0) 0 in (
-      set was n (x .0),
-      record {
-        same-length = length-set was n (x .0) ∙ r .1 .same-length;
-        first = λ j l.
-            below-more (λ i. P i (getD (set was n (x .0)) i 0)) n
-            (λ i k. subst (P i) (sym (others i (λ e. omega arith))) (r .1 .first i k))
-            (subst (P n) (sym here) (x .1)) j (omega arith);
-        later = λ j l. others j (λ e. omega arith) ∙ r .1 .later j (omega arith);
-      },
-    )
+    (set (r .0) n (x .0), rw (sym (add-one n)) (front-next P entry (r .0) n (x .0) (r .1) h (x .1)))
 
 -- an entry with the property, or none
 some-or-none : {A : Type 0} (P : A → Type 0) (l : List A) → ((x : A) → List·Memᴰ x l → Dec (P x))
@@ -99,7 +79,7 @@ module _
     CellAt j x = Cell (1 + j / 64) (j % 64) x
 
     module _ (slots : ℕ) (fits : needed list R ≤ slots) (entry : List ℕ) where
-      cells-show : (exit : List ℕ) → Front (64 * slots) CellAt entry exit → CellsShow slots (filled list R) entry exit
+      cells-show : (exit : List ℕ) → Front CellAt entry exit (64 * slots) → CellsShow slots (filled list R) entry exit
       cells-show exit f =
           record {
             same-length = f .same-length;
@@ -144,7 +124,7 @@ module _ (s : Settings) (list : List ℕ) where
           λ p a e. ap (λ (q : Placed). wordOf q (j % resultSize)) (filled-only list R (r .0) p (r .1) a (r .2 ∙ sym e)),
         )
 
-    results-show : (entry exit : List ℕ) → Front (resultSize * count list) WordAt entry exit
+    results-show : (entry exit : List ℕ) → Front WordAt entry exit (resultSize * count list)
         → ResultsShow s list (filled list R) entry exit
     results-show entry exit f = record { same-length = f .same-length; shown = shown; later = f .later }
       where

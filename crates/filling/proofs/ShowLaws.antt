@@ -20,6 +20,7 @@ use Rattle.terms.specs.declared.Frame.{Frame}
 use Rattle.terms.specs.Ranges.{FrameInRange}
 use Rattle.terms.specs.Lists.{count}
 use Rattle.terms.specs.Results.{wordsOf, resultSize, resultStart, resultAt}
+use Rattle.terms.proofs.RepetitionLaws.{repetition-positive}
 use Rattle.terms.proofs.ResultsLaws.{result-stored, result-others}
 use Rattle.cycles.specs.Frames.{Names, Sends}
 use Rattle.cycles.proofs.FrameLaws.{sends-or-not}
@@ -31,41 +32,42 @@ use Rattle.filling.specs.Private.{placedAt, Paintable, Painted, Resulted
 cell-at : (cells : List ℕ) (j : ℕ) → cellOf cells (j / 64 + 1) (j % 64) ≡ getD cells j 0
 cell-at cells j = let at : 64 * (j / 64 + 1 - 1) + j % 64 ≡ j = omega arith in ap (λ (i : ℕ). getD cells i 0) at
 
--- ---- cells cleared
+-- ---- words written from the front on, and cells cleared
 
-module _ (slots : ℕ) (entry : List ℕ) where
-  -- the first j cells are cleared
-  pub record Clearing (cells : List ℕ) (j : ℕ) : Type 0 where
-    pub last : j ≤ 64 * slots
-    pub same-length : length cells ≡ length entry
-    pub zero : (i : ℕ) → i < j → getD cells i 0 ≡ 0
-    pub later : (i : ℕ) → j ≤ i → getD cells i 0 ≡ getD entry i 0
+-- each of the first n words is as P asks, and all from n on are as they were
+pub record Front (P : ℕ → ℕ → Type 0) (entry exit : List ℕ) (n : ℕ) : Type 0 where
+  pub same-length : length exit ≡ length entry
+  pub first : (j : ℕ) → j < n → P j (getD exit j 0)
+  pub later : (j : ℕ) → n ≤ j → getD exit j 0 ≡ getD entry j 0
 
-  pub clearing-none : Clearing entry 0
-  clearing-none =
-      record { last = omega arith; same-length = refl; zero = λ i l. absurd (omega arith); later = λ i l. refl }
+module _ (P : ℕ → ℕ → Type 0) (entry : List ℕ) where
+  pub front-none : Front P entry entry 0
+  front-none = record { same-length = refl; first = λ j l. absurd (omega arith); later = λ j l. refl }
 
-  pub clearing-next : (cells : List ℕ) (j : ℕ) → Clearing cells j → j < 64 * slots → 64 * slots ≤ length entry
-      → Clearing (set cells j 0) (j + 1)
-  clearing-next cells j g h room =
+  pub front-next : (exit : List ℕ) (n x : ℕ) → Front P entry exit n → n < length entry → P n x
+      → Front P entry (set exit n x) (n + 1)
+  front-next exit n x f h p =
       record {
-        last = omega arith;
-        same-length = length-set cells j 0 ∙ g .same-length;
-        zero =
-            below-more (λ (i : ℕ). getD (set cells j 0) i 0 ≡ 0) j
-            (λ i l. getD-set-other cells j i 0 0 (λ e. omega arith) ∙ g .zero i l)
-            (getD-set-same cells j 0 0 (omega (arith, g .same-length)));
-        later = λ i l. getD-set-other cells j i 0 0 (λ e. omega arith) ∙ g .later i (omega arith);
+        same-length = length-set exit n x ∙ f .same-length;
+        first =
+            below-more (λ (j : ℕ). P j (getD (set exit n x) j 0)) n
+            (λ j l. rw (getD-set-other exit n j x 0 (λ e. omega arith)) (f .first j l))
+            (rw (getD-set-same exit n x 0 (omega (arith, f .same-length))) p);
+        later = λ j l. getD-set-other exit n j x 0 (λ e. omega arith) ∙ f .later j (omega arith);
       }
 
-  pub clearing-all : (cells : List ℕ) (j : ℕ) → Clearing cells j → 64 * slots ≤ j → CellsShow slots [] entry cells
-  clearing-all cells j g h =
-      record {
-        same-length = g .same-length;
-        holds = λ p k c m. absurd (List·Memᴰ·not-nil m);
-        empty = λ k c b l n. g .zero (64 * (k - 1) + c) (omega arith);
-        later = λ i l. g .later i (omega (arith, g .last));
-      }
+abbrev pub Cleared : (entry cells : List ℕ) → ℕ → Type 0
+Cleared = Front (λ j x. x ≡ 0)
+
+pub clearing-all : (slots : ℕ) (entry cells : List ℕ) (j : ℕ) → Cleared entry cells j → j ≡ 64 * slots
+    → CellsShow slots [] entry cells
+clearing-all slots entry cells j f e =
+    record {
+      same-length = f .same-length;
+      holds = λ p k c m. absurd (List·Memᴰ·not-nil m);
+      empty = λ k c b l n. f .first (64 * (k - 1) + c) (omega arith);
+      later = λ i l. f .later i (omega arith);
+    }
 
 -- cleared cells show nothing, whatever they were
 pub shown-none : {n : ℕ} {entry cells : List ℕ} → CellsShow n [] entry cells → CellsShow n [] cells cells
@@ -87,39 +89,28 @@ module _ (f : Frame) (signal : ℕ) (entry : List ℕ) where
   abbrev Named : ℕ → Type 0
   Named = Names (f .repetition) (f .base)
 
-  -- the frame's cycles below c are painted
+  -- the frame's cycles below c are painted: so many
   pub record Painting (cells : List ℕ) (c : ℕ) : Type 0 where
     pub same-length : length cells ≡ length entry
-    pub reached : (n : ℕ) × (c ≡ f .base + n * f .repetition)
-    pub holds : (d : ℕ) → d < 64 → d < c → Named d → cellOf cells (f .slot) d ≡ signal
+    pub times : ℕ
+    pub reached : c ≡ f .base + times * f .repetition
+    pub holds : (n : ℕ) → n < times → cellOf cells (f .slot) (f .base + n * f .repetition) ≡ signal
     pub others : (k d : ℕ) → 1 ≤ k → d < 64 → (Sends f k d → ⊥) → cellOf cells k d ≡ cellOf entry k d
 
   pub painting-none : Painting entry (f .base)
   painting-none =
       record {
         same-length = refl;
-        reached = (0, omega arith);
-        holds = λ d l h n. absurd (omega (arith, n .again .1));
+        times = 0;
+        reached = omega arith;
+        holds = λ n l. absurd (omega arith);
         others = λ k d l h n. refl;
       }
 
   module _ (cells : List ℕ) (c : ℕ) (p : Painting cells c) where
     module _ (can : Paintable entry f) (small : c < 64) where
       here : Named c
-      here = record { repetition = can .frame .repetition; base = can .frame .base; again = p .reached }
-
-      -- a cycle of the frame before the next one is at most this one
-      at-most : (d : ℕ) → Named d → d < c + f .repetition → (d < c → ⊥) → d ≡ c
-      at-most d n l h =
-          let R = f .repetition in
-          let k = p .reached .0 in
-          let m = n .again .0 in
-          let at = p .reached .1 in
-          let its = n .again .1 in
-          dite (decLt m k) (λ e. absurd (omega (arith, mul-le-mul-right R e, suc-mul m R))) (λ g.
-          dite (decLt k m) (λ e. absurd (omega (arith, mul-le-mul-right R e, suc-mul k R))) (λ i.
-          let same : m ≡ k = omega arith in
-          omega (arith, ap (λ (z : ℕ). z * R) same)))
+      here = record { repetition = can .frame .repetition; base = can .frame .base; again = (p .times, p .reached) }
 
       abbrev at : ℕ
       at = 64 * (f .slot - 1) + c
@@ -132,21 +123,22 @@ module _ (f : Frame) (signal : ℕ) (entry : List ℕ) where
           let same : c ≡ d = omega (arith, can .frame .slot) in
           (omega (arith, can .frame .slot), subst Named same here)
 
-      painted-now : (d : ℕ) → d < c + f .repetition → (d < c → ⊥) → Named d → cellOf after (f .slot) d ≡ signal
-      painted-now d l e n =
-          ap (cellOf after (f .slot)) (at-most d n l e)
-          ∙ getD-set-same cells at signal 0 (omega (arith, p .same-length, can .frame .slot, can .room))
-
-      painted-before : (d : ℕ) → d < 64 → d < c → Named d → cellOf after (f .slot) d ≡ signal
-      painted-before d l e n =
-          getD-set-other cells at (64 * (f .slot - 1) + d) signal 0 (λ q. omega arith) ∙ p .holds d l e n
+      earlier : (n : ℕ) → n < p .times → f .base + n * f .repetition < c
+      earlier n l =
+          let R = f .repetition in
+          omega (arith, mul-le-mul-right R l, suc-mul n R, repetition-positive R (can .frame .repetition), p .reached)
 
       pub painting-next : Painting after (c + f .repetition)
       painting-next =
           record {
             same-length = length-set cells at signal ∙ p .same-length;
-            reached = (p .reached .0 + 1, omega (arith, p .reached .1));
-            holds = λ d l h n. dite (decLt d c) (λ e. painted-before d l e n) (λ e. painted-now d h e n);
+            times = p .times + 1;
+            reached = omega (arith, p .reached);
+            holds =
+                below-more (λ (n : ℕ). cellOf after (f .slot) (f .base + n * f .repetition) ≡ signal) (p .times)
+                (λ n l. getD-set-other cells at _ signal 0 (λ q. omega (arith, earlier n l)) ∙ p .holds n l)
+                (rw (sym (p .reached))
+                (getD-set-same cells at signal 0 (omega (arith, p .same-length, can .frame .slot, can .room))));
             others = λ k d l h n.
                 getD-set-other cells at (64 * (k - 1) + d) signal 0 (λ e. n (one-cell k d l h e))
                 ∙ p .others k d l h n;
@@ -156,9 +148,15 @@ module _ (f : Frame) (signal : ℕ) (entry : List ℕ) where
     painting-all h =
         record {
           same-length = p .same-length;
-          holds = λ k d l s. subst (λ (x : ℕ). cellOf cells x d ≡ signal) (s .0) (p .holds d l (omega arith) (s .1));
+          holds = λ k d l s. rw (sym (s .0), s .1 .again .1) (p .holds (s .1 .again .0) (seen (s .1) l));
           others = p .others;
         }
+      where
+        seen : {d : ℕ} (n : Named d) → d < 64 → n .again .0 < p .times
+        seen n l =
+            dite (decLt (n .again .0) (p .times)) (λ k. k) (λ k.
+            let past : p .times ≤ n .again .0 = omega arith in
+            absurd (omega (arith, mul-le-mul-right (f .repetition) past, n .again .1, p .reached)))
 
 -- ---- one frame more in the cells
 

@@ -43,31 +43,19 @@ held-as : {u : ℕ} {s : State} {c d : Current} → Holding u s c → d .begun �
     → Holding (d .slot .unit) s d
 held-as {s = s} h b f = record { unit = refl; begun = b ∙ h .begun; cycles = subst (Holds (s .cycles)) (sym f) (h .cycles) }
 
--- ---- what a step tells
-
-module _ {u : ℕ} {s : State} {f : UnitFrame} where
-  step-frame : {x : Frame} {c : Current} → Stepped u s f (At x c) → placed s f .frame ≡ x
-  step-frame (goes n h) = refl
-
-  step-holds : {x : Frame} {c : Current} → Stepped u s f (At x c) → Holding u (after s f) c
-  step-holds (goes n h) = h
-
-  no-trouble : {k load : ℕ} → Fits k load s f → Stepped u s f Trouble → ⊥
-  no-trouble h (trouble n) = n (record { below = h .below; free = λ c l e. h .free c e })
+no-trouble : {u k load : ℕ} {s : State} {f : UnitFrame} → Fits k load s f → Stepped u s f Trouble → ⊥
+no-trouble h (trouble n) = n (record { below = h .below; free = λ c l e. h .free c e })
 
 goes-least : {s r : State} → GoesTo s r → s .begun ≤ r .begun
 goes-least (stay h) = le-refl _
 goes-least (turn h) = omega arith
 
--- ---- the first of frames that are in no trouble, and the rest
-
-module _ {group first load : ℕ → ℕ} {now : ℕ → State} {f : UnitFrame} {fs : List UnitFrame} where
-  first-fits : Untroubled group first load now (f ∷ fs)
-      → Fits (first (group (f .signal))) (load (group (f .signal))) (now (group (f .signal))) f
-  first-fits (goes-well h u) = h
-
-  rest-untroubled : Untroubled group first load now (f ∷ fs) → Untroubled group first load (stepped group now f) fs
-  rest-untroubled (goes-well h u) = u
+-- the first of frames that are in no trouble, and the rest
+first-and-rest : {group first load : ℕ → ℕ} {now : ℕ → State} {f : UnitFrame} {fs : List UnitFrame}
+    → Untroubled group first load now (f ∷ fs)
+    → Fits (first (group (f .signal))) (load (group (f .signal))) (now (group (f .signal))) f
+    × Untroubled group first load (stepped group now f) fs
+first-and-rest (goes-well h u) = (h, u)
 
 -- the next frame, of those in front of an array
 pub next-frame : (list : List ℕ) (R : ℕ → ℕ) (array : List UnitFrame) (i : ℕ) (d : UnitFrame)
@@ -153,8 +141,9 @@ module _ (s : Settings) (list words cells₀ results₀ : List ℕ) where
         abbrev later : ℕ → State
         later = stepped group (g .now) f
 
-        going : Untroubled group (before list R) (load list R) (g .now) (f ∷ drop (i + 1) fs)
-        going = subst (Untroubled group (before list R) (load list R) (g .now)) is (g .untroubled)
+        going : Fits (before list R own) (load list R own) (g .now own) f
+            × Untroubled group (before list R) (load list R) later (drop (i + 1) fs)
+        going = first-and-rest (rw is at (g .untroubled))
 
         -- it is placed behind those shown
         whole : (g .places ++ p ∷ []) ++ fillFrom group later (drop (i + 1) fs) ≡ filled list R
@@ -189,66 +178,59 @@ module _ (s : Settings) (list words cells₀ results₀ : List ℕ) where
             )
 
         -- the step placed the frame at x, and left the slot c
-        module _ {u : ℕ} (x : Frame) (c : Current) (t : Stepped u (g .now own) f (At x c)) where
-          abbrev begun′ : ℕ → List ℕ
-          begun′ k = set begun k (c .begun)
+        x-paintable : {u : ℕ} (x : Frame) (c : Current) → Stepped u (g .now own) f (At x c) → Paintable cells x
+        x-paintable x c (goes n t) =
+            let r = in-segment p here in
+            record {
+              frame = record { slot = (r .slot .0, le-refl _); repetition = r .repetition; base = r .base };
+              room = omega (arith, r .slot, runs .fillable .cells, g .table .same-length);
+            }
 
-          abbrev free′ : ℕ → List ℕ
-          free′ k = set free k (c .slot .free)
+        holds-next : {u : ℕ} (c : Current) → Holding u (after (g .now own) f) c → (k : ℕ) → k < groups
+            → Holding k (later k) (currentIn (set begun own (c .begun)) (set free own (c .slot .free)) k)
+        holds-next c t =
+            stepped-each group
+            (λ n s. n < groups → Holding n s (currentIn (set begun own (c .begun)) (set free own (c .slot .free)) n))
+            (g .now) f
+            (λ l.
+            held-as t (getD-set-same begun own (c .begun) 0 (omega (arith, g .many-begun)))
+            (getD-set-same free own (c .slot .free) 0 (omega (arith, g .many-free))))
+            (λ n d l.
+            held-as (g .holds n l) (getD-set-other begun own n (c .begun) 0 d)
+            (getD-set-other free own n (c .slot .free) 0 d))
 
-          x-paintable : Paintable cells x
-          x-paintable =
-              let r = subst (FrameInRange (s .slots)) (step-frame t) (in-segment p here) in
-              record {
-                frame = record { slot = (r .slot .0, le-refl _); repetition = r .repetition; base = r .base };
-                room = omega (arith, r .slot, runs .fillable .cells, g .table .same-length);
-              }
-
-          holds-next : (k : ℕ) → k < groups → Holding k (later k) (currentIn (begun′ own) (free′ own) k)
-          holds-next k =
-              stepped-each group (λ n now. n < groups → Holding n now (currentIn (begun′ own) (free′ own) n)) (g .now) f
-              (λ l.
-              held-as (step-holds t) (getD-set-same begun own (c .begun) 0 (omega (arith, g .many-begun)))
-              (getD-set-same free own (c .slot .free) 0 (omega (arith, g .many-free))))
-              (λ n d l.
-              held-as (g .holds n l) (getD-set-other begun own n (c .begun) 0 d)
-              (getD-set-other free own n (c .slot .free) 0 d)) k
-
-          filling-next : u ≡ own → (cells′ results′ : List ℕ)
-              → FrameShown s list (placedAt (f .signal) x) cells results cells′ results′
-              → Filling cells′ results′ (begun′ u) (free′ u) (i + 1)
-          filling-next e cells′ results′ shows =
-              let is-p = ap (placedAt (f .signal)) (sym (step-frame t)) in
-              let q = subst (λ (y : Placed). FrameShown s list y cells results cells′ results′) is-p shows in
-              let apart = filled-apart list R (runs .fillable .grouped .seven) in
-              subst (λ (n : ℕ). Filling cells′ results′ (begun′ n) (free′ n) (i + 1)) (sym e)
-              (record {
-                last = omega arith;
-                now = later;
-                places = g .places ++ p ∷ [];
-                left = whole;
-                untroubled = rest-untroubled going;
-                many-begun = length-set begun own (c .begun) ∙ g .many-begun;
-                many-free = length-set free own (c .slot .free) ∙ g .many-free;
-                holds = holds-next;
-                table =
-                    cells-more (g .table) p (λ y m. in-segment y (among y m))
-                    (λ y k d m. apart y p (earlier y m) here k d) cells′ (q .painted);
-                shown =
-                    results-more (g .shown) p (runs .fillable .results) (λ y m. filled-own list R y (among y m) .0)
-                    (λ y m. filled-only list R y p (earlier y m) here) results′ (q .resulted);
-              })
+        filling-next : {u : ℕ} (x : Frame) (c : Current) → Stepped u (g .now own) f (At x c) → u ≡ own
+            → (cells′ results′ : List ℕ) → FrameShown s list (placedAt (f .signal) x) cells results cells′ results′
+            → Filling cells′ results′ (set begun u (c .begun)) (set free u (c .slot .free)) (i + 1)
+        filling-next x c (goes n t) e cells′ results′ q =
+            let apart = filled-apart list R (runs .fillable .grouped .seven) in
+            rw e
+            (record {
+              last = omega arith;
+              now = later;
+              places = g .places ++ p ∷ [];
+              left = whole;
+              untroubled = going .1;
+              many-begun = length-set begun own (c .begun) ∙ g .many-begun;
+              many-free = length-set free own (c .slot .free) ∙ g .many-free;
+              holds = holds-next c t;
+              table =
+                  cells-more (g .table) p (λ y m. in-segment y (among y m))
+                  (λ y k d m. apart y p (earlier y m) here k d) cells′ (q .painted);
+              shown =
+                  results-more (g .shown) p (runs .fillable .results) (λ y m. filled-own list R y (among y m) .0)
+                  (λ y m. filled-only list R y p (earlier y m) here) results′ (q .resulted);
+            })
 
         pub at-frame : AtFrame cells results begun free i f
         at-frame =
             record {
               in-groups = own-group;
               few-begun = own-begun;
-              seven = first-fits going .seven;
+              seven = going .0 .seven;
               state = g .now own;
-              holds = λ u e.
-                  subst (λ (n : ℕ). Holding n (g .now own) (currentIn begun free n)) (sym e) (g .holds own own-group);
-              untroubled = no-trouble (first-fits going);
+              holds = λ u e. rw e (g .holds own own-group);
+              untroubled = no-trouble (going .0);
               paintable = x-paintable;
               goes-on = filling-next;
             }

@@ -9,7 +9,7 @@ use native.Mathlib.Omega.{arith}
 use borrow.Author.Count.{below-more}
 use lib.ListN.{length, getD, set, replicate, length-set, length-replicate, getD-replicate}
 use lib.Seq.{getD-set-same, getD-set-other}
-use Rattle.laws.specs.Sums.{sum, same}
+use Rattle.laws.specs.Sums.{same}
 use Rattle.laws.proofs.SumLaws.{same-equal, same-apart, sum-none, sum-more}
 use Rattle.terms.specs.Ranges.{Repetition}
 use Rattle.terms.specs.Lists.{groups}

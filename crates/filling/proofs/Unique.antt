@@ -21,7 +21,7 @@ use Rattle.age.proofs.AgeGivenLaws.{age-given-unique}
 use Rattle.cycles.specs.Frames.{Sends}
 use Rattle.filling.specs.declared.UnitFrame.{UnitFrame}
 use Rattle.filling.specs.declared.Filled.{Filled}
-use Rattle.filling.specs.Ordered.{ordered, ordered}
+use Rattle.filling.specs.Ordered.{ordered}
 use Rattle.filling.specs.Runs.{Placed, start}
 use Rattle.filling.specs.Filled.{framesFrom, fillFrom, filled}
 use Rattle.filling.specs.Shown.{cellOf, CellsShow, ResultOf, EachResult, ResultsShow}

@@ -31,12 +31,6 @@ near k =
 loop-holds : tie.Need-loop-holds Inv-loop μ-loop
 loop-holds c = (tallying-none _ _ _, c .count .ensures)
 
-array-read-t10 : tie.Need-array-read-t10 Inv-loop μ-loop
-array-read-t10 c = near c
-
-array-write-loads : tie.Need-array-write-loads Inv-loop μ-loop
-array-write-loads c = near (c .before .before)
-
 loop-again : tie.Need-loop-again Inv-loop μ-loop
 loop-again c =
     let k = c .before .before in
@@ -59,6 +53,6 @@ pub loads-spec : {M : Type 1} → statement M
 loads-spec =
     tie.close
     (tie.spec Inv-loop μ-loop (λ c κs. search needs) loop-holds (λ c. omega arith) (λ c. omega arith)
-    (λ c κs. search needs) (λ c. omega arith) (λ c. omega arith) array-read-t10 (λ c. omega arith)
-    (λ c. omega arith) (λ c κs. search needs) (λ c. omega arith) array-write-loads (λ c. omega arith)
+    (λ c κs. search needs) (λ c. omega arith) (λ c. omega arith) near (λ c. omega arith)
+    (λ c. omega arith) (λ c κs. search needs) (λ c. omega arith) (λ c. near (c .before .before)) (λ c. omega arith)
     (λ c. omega arith) loop-again returns)

@@ -40,9 +40,6 @@ loop-holds c = beginning-none _ _ _ _ (omega arith)
 add-needed : tie.Need-add-needed Inv-loop μ-loop
 add-needed c = omega (arith, beginning-small _ _ _ _ _ _ (goes-on c), Entry c .pre .right .few)
 
-loop-again : tie.Need-loop-again Inv-loop μ-loop
-loop-again c = goes-on c
-
 returns : tie.Need-returns Inv-loop μ-loop
 returns c =
     let l = c .before in
@@ -54,4 +51,4 @@ slots-before-spec =
     tie.close
     (tie.spec Inv-loop μ-loop (λ c κs. search needs) loop-holds (λ c. omega arith) (λ c. omega arith)
     (λ c. omega arith) (λ c. omega arith) (λ c κs. search needs) add-needed (λ c. omega arith)
-    (λ c. omega arith) loop-again returns)
+    (λ c. omega arith) goes-on returns)

@@ -85,34 +85,16 @@ loop-holds c =
     let b = c .before .before .before .before .before .before in
     (filling-none _ _ _ _ _ (b .args .starts) (b .pre) (omega arith), c .before .count .ensures)
 
-array-read-t27 : tie.Need-array-read-t27 Inv-loop μ-loop
-array-read-t27 c = own c
-
-array-read-t32 : tie.Need-array-read-t32 Inv-loop μ-loop
-array-read-t32 c = own c
-
 place-requires : tie.Need-place-requires Inv-loop μ-loop
 place-requires c κs =
     let same = ap (λ (g : ℕ). getD (Loop c .loop .begun) g 0) (c .group-of .ensures) in
     (omega (arith, here c .few-begun), here c .seven)
-
-same-length : tie.Need-same-length Inv-loop μ-loop
-same-length c = Loop (c .before .before .before) .loop .inv .0 .table .same-length
-
-same-length-2 : tie.Need-same-length-2 Inv-loop μ-loop
-same-length-2 c = Loop (c .before .before .before) .loop .inv .0 .shown .same-length
 
 returns : tie.Need-returns Inv-loop μ-loop
 returns c =
     let k = c .before .before in
     let g = here (k .before) in
     absurd (g .untroubled (subst (Stepped (k .before .group-of .result) (g .state) (next (k .before))) (c .enum-told .given .1) (step k)))
-
-array-write-free : tie.Need-array-write-free Inv-loop μ-loop
-array-write-free c = own (c .before .before .before .before .before)
-
-array-write-begun : tie.Need-array-write-begun Inv-loop μ-loop
-array-write-begun c = own (c .before .before .before .before .before)
 
 show-requires : tie.Need-show-requires Inv-loop μ-loop
 show-requires c κs =
@@ -129,12 +111,6 @@ loop-again c =
       Loop k .loop .inv .1,
     )
 
-same-length-3 : tie.Need-same-length-3 Inv-loop μ-loop
-same-length-3 c = c .before .loop .inv .0 .table .same-length
-
-same-length-4 : tie.Need-same-length-4 Inv-loop μ-loop
-same-length-4 c = c .before .loop .inv .0 .shown .same-length
-
 returns-2 : tie.Need-returns-2 Inv-loop μ-loop
 returns-2 c =
     let l = c .before in
@@ -145,7 +121,8 @@ pub run-spec : {M : Type 1} → statement M
 run-spec =
     tie.close
     (tie.spec Inv-loop μ-loop (λ c κs. search needs) frames-in-order-requires loop-holds (λ c. omega arith)
-    (λ c. omega arith) (λ c κs. search needs) (λ c. omega arith) (λ c. omega arith) array-read-t27
-    (λ c. omega arith) array-read-t32 place-requires (λ c. search needs) (λ c. search needs) same-length
-    same-length-2 returns (λ c. omega arith) array-write-free (λ c. omega arith) array-write-begun show-requires
-    (λ c. omega arith) (λ c. omega arith) loop-again same-length-3 same-length-4 returns-2)
+    (λ c. omega arith) (λ c κs. search needs) (λ c. omega arith) (λ c. omega arith) own (λ c. omega arith) own
+    place-requires (λ c. search needs) (λ c. search needs) (λ c. omega arith) (λ c. omega arith) returns (λ c. omega arith)
+    (λ c. own (c .before .before .before .before .before)) (λ c. omega arith)
+    (λ c. own (c .before .before .before .before .before)) show-requires (λ c. omega arith) (λ c. omega arith)
+    loop-again (λ c. omega arith) (λ c. omega arith) returns-2)

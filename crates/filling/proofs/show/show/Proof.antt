@@ -1,10 +1,7 @@
 -- `filling::show::show` meets its contract: the age of the frame, its result put and its cells painted.
 -- Assumes nothing.
-use mathlib.Core.Path.{refl, subst}
+use mathlib.Core.Path.{refl}
 use borrow.Author.Needs.{needs}
-use Rattle.terms.specs.declared.Signal.{Signal}
-use Rattle.terms.specs.Lists.{signalAt}
-use Rattle.age.specs.AgeGiven.{AgeGiven}
 use Rattle.filling.proofs.show.show.Statement.{statement}
 use Rattle.filling.proofs.show.show.Tie as tie
 
@@ -14,8 +11,7 @@ returns c =
     let aged = put .before .before in
     let a = aged .before .before .before .before .before .args in
     let old = aged .age .result in
-    let given : AgeGiven (a .s) (signalAt (a .list .now) (a .signal)) (a .f) old =
-    subst (λ (x : Signal). AgeGiven (a .s) x (a .f) old) (aged .before .signal-at .ensures) (aged .age .ensures) in
+    let given = rw (aged .before .signal-at .ensures) at (aged .age .ensures) in
     record {
       painted = c .before .before .paint .ensures;
       resulted =

@@ -41,7 +41,6 @@ module _ (R : ℕ) (seven : Repetition R) where
 
 -- r is the first free cycle of those from c to d, or d
 pub record First (cycles : Cycles) (c d r : ℕ) : Type 0 where
-  pub from : c ≤ r
   pub within : r ≤ d
   pub before : (i : ℕ) → c ≤ i → i < r → cycles i ≡ 0 → ⊥
   pub found : r < d → cycles r ≡ 0
@@ -49,32 +48,20 @@ pub record First (cycles : Cycles) (c d r : ℕ) : Type 0 where
 seek-first : (cycles : Cycles) (n c : ℕ) → First cycles c (c + n) (seek cycles n c)
 unfolding seek
 seek-first cycles zero c =
-    record { from = omega arith; within = omega arith; before = λ i l h e. omega arith; found = λ h. absurd (above h) }
-  where
-    above : c < c + 0 → ⊥
-    above h = omega arith
+    record { within = omega arith; before = λ i l h e. omega arith; found = λ h. let z : ⊥ = omega arith in absurd z }
 seek-first cycles (suc n) c = go (eqb (cycles c) 0) refl (seek-first cycles n (suc c))
   where
     go : (t : Bool) → eqb (cycles c) 0 ≡ t → First cycles (suc c) (suc c + n) (seek cycles n (suc c))
         → First cycles c (c + suc n) (cond t c (seek cycles n (suc c)))
     go true e later =
-        record {
-          from = omega arith;
-          within = omega arith;
-          before = λ i l h z. omega arith;
-          found = λ h. eqb-true (cycles c) 0 e;
-        }
+        record { within = omega arith; before = λ i l h z. omega arith; found = λ h. eqb-true (cycles c) 0 e }
     go false e later =
         record {
-          from = omega (arith, later .from);
           within = omega (arith, later .within);
-          before = λ i l h z. earlier i l h z;
+          before = λ i l h z.
+              ⊎-elim (λ q. eqb-false (cycles c) 0 e (ap cycles q ∙ z)) (λ q. later .before i q h z) (eq-or-lt-of-le l);
           found = λ h. later .found (omega arith);
         }
-      where
-        earlier : (i : ℕ) → c ≤ i → i < seek cycles n (suc c) → cycles i ≡ 0 → ⊥
-        earlier i l h z =
-            ⊎-elim (λ q. eqb-false (cycles c) 0 e (ap cycles q ∙ z)) (λ q. later .before i q h z) (eq-or-lt-of-le l)
 
 pub first-free : (cycles : Cycles) → First cycles 0 64 (firstFree cycles)
 unfolding firstFree

@@ -148,10 +148,7 @@ module _ (s : Settings) (list words cells₀ results₀ : List ℕ) where
         -- it is placed behind those shown
         whole : (g .places ++ p ∷ []) ++ fillFrom group later (drop (i + 1) fs) ≡ filled list R
         unfolding fillFrom
-        whole =
-            append-assoc (g .places) (p ∷ []) (fillFrom group later (drop (i + 1) fs))
-            ∙ ap (λ (l : List UnitFrame). g .places ++ fillFrom group (g .now) l) (sym is)
-            ∙ g .left
+        whole = rw append-assoc (rw is at (g .left))
 
         among : (q : Placed) → List·Memᴰ q (g .places ++ p ∷ []) → List·Memᴰ q (filled list R)
         among q m = subst (List·Memᴰ q) whole (Memᴰ·append-left (fillFrom group later (drop (i + 1) fs)) m)
@@ -241,12 +238,9 @@ module _ (s : Settings) (list words cells₀ results₀ : List ℕ) where
       filling-all h =
           let past : length fs ≤ i = omega (arith, in-order-length R (count list)) in
           let over : drop i fs ≡ [] = drop-of-length-le fs past in
-          let all : g .places ≡ filled list R =
-          sym (append-nil (g .places))
-          ∙ ap (λ (l : List UnitFrame). g .places ++ fillFrom group (g .now) l) (sym over)
-          ∙ g .left in
+          let all : g .places ≡ filled list R = rw (over, append-nil) at (g .left) in
           record {
             none = refl;
-            table = subst (λ (ps : List Placed). CellsShow (s .slots) ps cells₀ cells) all (g .table);
-            shown = subst (λ (ps : List Placed). ResultsShow s list ps results₀ results) all (g .shown);
+            table = rw all at (g .table);
+            shown = rw all at (g .shown);
           }

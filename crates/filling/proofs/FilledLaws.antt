@@ -155,4 +155,4 @@ module _ (list : List ℕ) (R : ℕ → ℕ) where
         let k = q .frame .slot in
         let behind : before (owner p) < k = subst (λ (g : ℕ). before g < k) e (in-slots q b .past) in
         ⊎-elim (λ g. absurd (⊎-elim (λ h. omega (arith, h, behind)) (λ h. omega (arith, h .0, behind)) g)) (λ u. u)
-        (passed-used group before load filled-untroubled (order-sooner R m) a k c l w)
+        (passed-used group before load filled-untroubled (order-sooner R m) (λ r i. i) a k c l w)

@@ -76,16 +76,6 @@ module _ (group : ℕ → ℕ) where
     pub sooner : SoonerAt place p
     pub sends : Sends (place .frame) k c
 
-  used-later : {places : List Placed} {x p : Placed} {k c : ℕ} → UsedBefore places p k c → UsedBefore (x ∷ places) p k c
-  used-later u =
-      record {
-        place = u .place;
-        among = List·Memᴰ·tail (u .among);
-        group-same = u .group-same;
-        sooner = u .sooner;
-        sends = u .sends;
-      }
-
   module _ (first load : ℕ → ℕ) where
     abbrev Going : (ℕ → State) → List UnitFrame → Type 0
     Going states fs = Untroubled group first load states fs
@@ -159,31 +149,31 @@ module _ (group : ℕ → ℕ) where
     -- ---- no cell and no slot left out
 
     -- every cell before a place was gone over at first, or is in use by a place before it
-    pub passed-used : {states : ℕ → State} {fs : List UnitFrame} → Going states fs → InTurn Sooner fs
+    pub passed-used : {states : ℕ → State} {fs : List UnitFrame} {all : List Placed} → Going states fs → InTurn Sooner fs
+        → ((q : Placed) → Among states fs q → List·Memᴰ q all)
         → {p : Placed} → Among states fs p → (k c : ℕ) → c < 64 → Past p k c
-        → Gone (states (groupAt p)) k c ⊎ UsedBefore (fillFrom group states fs) p k c
+        → Gone (states (groupAt p)) k c ⊎ UsedBefore all p k c
     unfolding fillFrom
-    passed-used (ended r) t m k c l b = absurd (List·Memᴰ·not-nil m)
-    passed-used (goes {states} {f} h u) t (List·Memᴰ·head e) k c l b =
+    passed-used (ended r) t in-all m k c l b = absurd (List·Memᴰ·not-nil m)
+    passed-used (goes {states} {f} h u) t in-all (List·Memᴰ·head e) k c l b =
         inl
         (subst (λ (p : Placed). Past p k c → Gone (states (groupAt p)) k c) (sym e)
         (passed-gone k c (current group states f) f l) b)
-    passed-used (goes {states} {f} {fs} h u) (ahead a t) {p} (List·Memᴰ·tail m) k c l b =
+    passed-used {all = all} (goes {states} {f} {fs} h u) (ahead a t) in-all {p} (List·Memᴰ·tail m) k c l b =
         ⊎-elim
-        (stepped-each group (λ x s. x ≡ groupAt p → Gone s k c → Was x) states f here (λ x n e. inl) (groupAt p) refl)
-        (λ w. inr (used-later w)) (passed-used u t m k c l b)
+        (stepped-each group (λ x s. x ≡ groupAt p → Gone s k c → Gone (states x) k c ⊎ UsedBefore all p k c) states f here
+        (λ x n e. inl) (groupAt p) refl)
+        inr (passed-used u t (λ q i. in-all q (List·Memᴰ·tail i)) m k c l b)
       where
-        Was : ℕ → Type 0
-        Was x = Gone (states x) k c ⊎ UsedBefore (fillFrom group states (f ∷ fs)) p k c
-
-        here : group (f .signal) ≡ groupAt p → Gone (after (current group states f) f) k c → Was (group (f .signal))
+        here : group (f .signal) ≡ groupAt p → Gone (after (current group states f) f) k c
+            → Gone (current group states f) k c ⊎ UsedBefore all p k c
         here e g =
-            ⊎-elim (λ y. inl y)
+            ⊎-elim inl
             (λ y.
             inr
             (record {
               place = placeOf states f;
-              among = List·Memᴰ·head refl;
+              among = in-all (placeOf states f) (List·Memᴰ·head refl);
               group-same = e;
               sooner = a (turnOf p) (place-from fs (stepped group states f) m);
               sends = y;

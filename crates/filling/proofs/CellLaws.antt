@@ -34,10 +34,8 @@ module _ (k c : ℕ) where
   there-gone : {s r : State} → GoesTo s r → c < 64 → Gone r k c → Gone s k c
   there-gone (stay h) l g = g
   there-gone {s} (turn h) l (inl b) =
-      ⊎-elim (λ e. inr (e, first-free (s .cycles) .before c zero-le (omega arith))) (λ m. inl m) (eq-or-lt-of-le below)
-    where
-      below : k ≤ s .begun
-      below = omega arith
+      let below : k ≤ s .begun = omega arith in
+      ⊎-elim (λ e. inr (e, first-free (s .cycles) .before c zero-le (omega arith))) inl (eq-or-lt-of-le below)
   there-gone (turn h) l (inr e) = absurd (e .1 refl)
 
   module _ (s : State) (f : UnitFrame) where

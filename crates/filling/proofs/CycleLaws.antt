@@ -4,7 +4,7 @@ use mathlib.Core.Path.{_≡_, refl, sym, ap, _∙_}
 use mathlib.Core.Bool.{Bool, true, false, cond}
 use mathlib.Core.Logic.{⊎-elim}
 use Prim.Native.Nat.{ℕ, zero, suc, _+_, _*_, _/_, _%_, _≤_, _<_}
-use native.Mathlib.Nat.{mod-mod, mod-eq-of-lt, add-mod-left, mul-one, div-add-mod', le-div-iff-mul-le, eq-or-lt-of-le}
+use native.Mathlib.Nat.{mod-mod, mod-eq-of-lt, add-mod-left, div-add-mod', le-div-iff-mul-le, eq-or-lt-of-le}
 use native.Mathlib.Omega.{arith}
 use borrow.Author.Tests.{eqb-true, eqb-false}
 use lib.Dec.{eqb}
@@ -26,16 +26,11 @@ module _ (R : ℕ) (seven : Repetition R) where
 
   pub takes-sum : (b : ℕ) → b < R → sum (takes R b) 64 ≡ 64 / R
   takes-sum b l =
+      let whole : 64 ≡ 64 / R * R = omega (arith, div-add-mod' 64 R, repetition-divides R seven) in
+      let first = sum-ext (takes R b) (same b) R (λ c k. ap (same b) (mod-eq-of-lt k)) ∙ sum-same b R l in
       ap (sum (takes R b)) whole
       ∙ sum-repeat (takes R b) R (λ c. ap (same b) (add-mod-left R c)) (64 / R)
-      ∙ ap (λ (x : ℕ). 64 / R * x) first
-      ∙ mul-one (64 / R)
-    where
-      whole : 64 ≡ 64 / R * R
-      whole = omega (arith, div-add-mod' 64 R, repetition-divides R seven)
-
-      first : sum (takes R b) R ≡ 1
-      first = sum-ext (takes R b) (same b) R (λ c k. ap (same b) (mod-eq-of-lt k)) ∙ sum-same b R l
+      ∙ omega (arith, ap (λ (x : ℕ). 64 / R * x) first)
 
 -- ---- the first free cycle
 

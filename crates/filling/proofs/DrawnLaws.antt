@@ -17,7 +17,7 @@ use Rattle.cycles.specs.Frames.{Sends}
 use Rattle.filling.specs.Runs.{Placed}
 use Rattle.filling.specs.Filled.{needed, filled}
 use Rattle.filling.specs.Drawn.{Drawn, slotUsed, slotsUsed, Before, InUse, FillingShown}
-use Rattle.filling.proofs.PlacedLaws.{SoonerAt, UsedBefore}
+use Rattle.filling.proofs.PlacedLaws.{SoonerAt, within, UsedBefore}
 use Rattle.filling.proofs.FilledLaws.{In, filled-own, filled-some, filled-range, filled-slots, filled-groups}
 use Rattle.filling.proofs.FilledLaws.{filled-one-group, filled-apart, filled-onward, filled-passed}
 
@@ -55,9 +55,7 @@ module _
           record {
             frames =
                 each-frame (λ i f. FrameInRange n f)
-                (λ p a.
-                let f = filled-range list R seven grp p a in
-                record { slot = omega (arith, f .slot, fits); repetition = f .repetition; base = f .base });
+                (λ p a. let f = filled-range list R seven grp p a in within f (omega (arith, f .slot, fits)));
             apart = λ i j k c a b l.
                 two-frames (λ i j f g. Sends f k c → Sends g k c → i ≡ j)
                 (λ p q x y d e. ap (λ (z : Placed). z .signal) (filled-apart list R seven p q x y k c d e)) i j a b;

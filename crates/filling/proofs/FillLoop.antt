@@ -28,6 +28,7 @@ use Rattle.filling.proofs.RunLaws.{Fits, GoesTo, goes-case}
 use Rattle.filling.proofs.RunLaws.GoesTo.{stay, turn}
 use Rattle.filling.proofs.GroupLaws.{stepped, stepped-each, Untroubled}
 use Rattle.filling.proofs.GroupLaws.Untroubled.{goes as goes-well}
+use Rattle.filling.proofs.PlacedLaws.{within}
 use Rattle.filling.proofs.LoadLaws.{needed-most}
 use Rattle.filling.proofs.FilledLaws.{before, load, states, frames}
 use Rattle.filling.proofs.FilledLaws.{filled-own, filled-only, filled-untroubled, filled-range, filled-apart}
@@ -125,9 +126,7 @@ module _ (s : Settings) (list words cells₀ results₀ : List ℕ) where
     in-needed = filled-range list R (runs .fillable .grouped .seven) (runs .fillable .grouped .group)
 
     in-segment : (p : Placed) → List·Memᴰ p (filled list R) → FrameInRange (s .slots) (p .frame)
-    in-segment p m =
-        let r = in-needed p m in
-        record { slot = omega (arith, r .slot, runs .fits); repetition = r .repetition; base = r .base }
+    in-segment p m = let r = in-needed p m in within r (omega (arith, r .slot, runs .fits))
 
     module _ (cells results begun free : List ℕ) (i : ℕ) (g : Filling cells results begun free i) where
       -- frame f is the next
@@ -179,7 +178,7 @@ module _ (s : Settings) (list words cells₀ results₀ : List ℕ) where
         x-paintable x c (goes n t) =
             let r = in-segment p here in
             record {
-              frame = record { slot = (r .slot .0, le-refl _); repetition = r .repetition; base = r .base };
+              frame = within r (le-refl _);
               room = omega (arith, r .slot, runs .fillable .cells, g .table .same-length);
             }
 

@@ -25,7 +25,7 @@ use Rattle.filling.proofs.OrderLaws.{OwnFrame, frames-own, frames-in, f
 use Rattle.filling.proofs.RunLaws.{Good, start-good}
 use Rattle.filling.proofs.CellLaws.{Past}
 use Rattle.filling.proofs.GroupLaws.{loadOf, last, Untroubled, untroubled}
-use Rattle.filling.proofs.PlacedLaws.{turnOf, SoonerAt, groupAt, place-from, place-for, places-sooner}
+use Rattle.filling.proofs.PlacedLaws.{turnOf, SoonerAt, within, groupAt, place-from, place-for, places-sooner}
 use Rattle.filling.proofs.PlacedLaws.{Leads, UsedBefore, InSlots, places-in, places-lead, passed-used, slots-used}
 
 module _ (list : List ℕ) (R : ℕ → ℕ) where
@@ -108,11 +108,7 @@ module _ (list : List ℕ) (R : ℕ → ℕ) where
     pub filled-range : EachTo m (λ i. group i < groups) → (p : Placed) → In p → FrameInRange (needed list R) (p .frame)
     filled-range grp p a =
         let f = in-slots p a .frame in
-        record {
-          slot = omega (arith, f .slot, groups-apart (owner p) groups (grp (p .signal) (filled-own p a .0)));
-          repetition = f .repetition;
-          base = f .base;
-        }
+        within f (omega (arith, f .slot, groups-apart (owner p) groups (grp (p .signal) (filled-own p a .0))))
 
     -- no slot needed is left out
     pub filled-slots : (k : ℕ) → Between 1 (needed list R) k → (p : Placed) × In p × (p .frame .slot ≡ k)

@@ -36,11 +36,8 @@ module _ (group : ℕ → ℕ) where
       → (h : ℕ) → P h (stepped states f h)
   stepped-each P states f here other h = go (eqb h (group (f .signal))) refl
     where
-      s : State
-      s = after (current states f) f
-
-      go : (b : Bool) → eqb h (group (f .signal)) ≡ b → P h (cond b s (states h))
-      go true e = subst (λ (k : ℕ). P k s) (sym (eqb-true h (group (f .signal)) e)) here
+      go : (b : Bool) → eqb h (group (f .signal)) ≡ b → P h (cond b (after (current states f) f) (states h))
+      go true e = rw (eqb-true h (group (f .signal)) e) here
       go false e = other h (eqb-false h (group (f .signal)) e)
 
   -- the load of group g among frames

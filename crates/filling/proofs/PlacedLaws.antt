@@ -8,6 +8,7 @@ use Prim.Native.Nat.{ℕ, _≤_, _<_}
 use native.Mathlib.Nat.{mod-eq-of-lt}
 use native.Mathlib.Decide.{ℕ-discrete, decLe}
 use native.Mathlib.Omega.{arith}
+use Rattle.terms.specs.declared.Frame.{Frame}
 use Rattle.terms.specs.Ranges.{FrameInRange}
 use Rattle.cycles.specs.Frames.{Sends}
 use Rattle.cycles.proofs.FrameLaws.{remainder-named}
@@ -28,6 +29,10 @@ turnOf p = record { signal = p .signal; repetition = p .frame .repetition }
 -- the frame of place p goes before that of place q
 abbrev pub SoonerAt : (p q : Placed) → Type 0
 SoonerAt p q = Sooner (turnOf p) (turnOf q)
+
+-- a frame in range of some slots is so of any that reach its own
+pub within : {n k : ℕ} {f : Frame} → FrameInRange n f → f .slot ≤ k → FrameInRange k f
+within r h = record { slot = (r .slot .0, h); repetition = r .repetition; base = r .base }
 
 module _ (group : ℕ → ℕ) where
   abbrev pub groupAt : Placed → ℕ

@@ -16,7 +16,7 @@ use Rattle.terms.specs.declared.Result.{Result}
 use Rattle.terms.specs.Requests.{PlanRoom, planRoom}
 use Rattle.terms.specs.Ranges.{Repetition, FrameInRange}
 use Rattle.terms.specs.Lists.{count, signalAt, groupOf, groups}
-use Rattle.terms.specs.Results.{wordsOf, resultSize, resultStart, resultAt}
+use Rattle.terms.specs.Results.{wordsOf, resultSize, resultStart}
 use Rattle.terms.proofs.ResultsLaws.{same-result}
 use Rattle.age.proofs.Exists.{age-given-exists}
 use Rattle.cycles.specs.Frames.{Sends}
@@ -126,19 +126,21 @@ module _ (s : Settings) (list : List ℕ) where
 
     results-show : (entry exit : List ℕ) → Front WordAt entry exit (resultSize * count list)
         → ResultsShow s list (filled list R) entry exit
-    results-show entry exit f = record { same-length = f .same-length; shown = shown; later = f .later }
-      where
-        shown : (p : Placed) → In list R p → ResultOf s list p (resultAt (λ d. getD exit d 0) (p .signal))
-        shown p a =
-            let at = resultStart (p .signal) in
-            let own = filled-own list R p a .0 in
-            subst (ResultOf s list p)
-            (sym
-            (same-result (λ d. getD exit (at + d) 0) (wordOf p) (λ d l.
-            let signal : p .signal ≡ 1 + (at + d) / resultSize = omega (arith, own) in
-            let rest : (at + d) % resultSize ≡ d = omega arith in
-            f .first (at + d) (omega (arith, own)) p a signal ∙ ap (wordOf p) rest)))
-            (result p .1)
+    results-show entry exit f =
+        record {
+          same-length = f .same-length;
+          shown = λ p a.
+              let at = resultStart (p .signal) in
+              let own = filled-own list R p a .0 in
+              subst (ResultOf s list p)
+              (sym
+              (same-result (λ d. getD exit (at + d) 0) (wordOf p) (λ d l.
+              let signal : p .signal ≡ 1 + (at + d) / resultSize = omega (arith, own) in
+              let rest : (at + d) % resultSize ≡ d = omega arith in
+              f .first (at + d) (omega (arith, own)) p a signal ∙ ap (wordOf p) rest)))
+              (result p .1);
+          later = f .later;
+        }
 
     results-exist : (entry : List ℕ) → resultSize * count list ≤ length entry
         → (exit : List ℕ) × ResultsShow s list (filled list R) entry exit

@@ -22,7 +22,7 @@ use Rattle.filling.specs.Runs.{Placed, State, start}
 use Rattle.filling.specs.Filled.{groupLoad, slotsBefore, needed, framesFrom, filled}
 use Rattle.filling.proofs.OrderLaws.{InTurn, two-in-turn, sooner-apart, ordered-total, ordered-from, ordered-in}
 use Rattle.filling.proofs.OrderLaws.{OwnFrame, frames-own, frames-in, frames-total, order-sooner, order-seven}
-use Rattle.filling.proofs.RunLaws.{Good, start-good}
+use Rattle.filling.proofs.RunLaws.{start-good}
 use Rattle.filling.proofs.CellLaws.{Past}
 use Rattle.filling.proofs.GroupLaws.{loadOf, last, Untroubled, untroubled}
 use Rattle.filling.proofs.PlacedLaws.{turnOf, SoonerAt, within, groupAt, place-from, place-for, places-sooner}
@@ -78,18 +78,15 @@ module _ (list : List ℕ) (R : ℕ → ℕ) where
     -- ---- no frame is in trouble
 
     all-load : (g : ℕ) → loadOf group frames g ≡ load g
-    all-load g = ordered-total t (framesFrom R m 1) ∙ frames-total R t m 1
-      where
-        t : UnitFrame → ℕ
-        t f = same (group (f .signal)) g * (64 / f .repetition)
+    all-load g =
+        let t : UnitFrame → ℕ = λ f. same (group (f .signal)) g * (64 / f .repetition) in
+        ordered-total t (framesFrom R m 1) ∙ frames-total R t m 1
 
     pub filled-untroubled : Untroubled group before load states frames
     filled-untroubled =
-        untroubled group before load frames states 1 (0, zero-le, refl) (order-sooner R m) each
-        (λ g. subst (λ (n : ℕ). Good 1 (before g) (load g) n (states g)) (sym (all-load g)) (start-good 1 _ _))
-      where
-        each : (f : UnitFrame) → List·Memᴰ f frames → Repetition (f .repetition) × (1 ≤ f .repetition)
-        each f a = let r = order-seven R m seven f a in (r, repetition-positive (f .repetition) r)
+        untroubled group before load frames states 1 (0, zero-le, refl) (order-sooner R m)
+        (λ f a. let r = order-seven R m seven f a in (r, repetition-positive (f .repetition) r))
+        (λ g. rw (all-load g) (start-good 1 (before g) (load g)))
 
     -- ---- in the slots needed
 

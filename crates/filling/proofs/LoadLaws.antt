@@ -1,7 +1,7 @@
 -- The laws of the load and of the slots needed: these depend on the repetitions of the signals alone, are at most one
 -- for each signal, and fewer signals with larger repetitions need no more.
 -- Assumes nothing.
-use mathlib.Core.Path.{_≡_, refl, sym, ap, subst}
+use mathlib.Core.Path.{_≡_, refl, ap}
 use Prim.Native.Nat.{ℕ, _+_, _*_, _-_, _/_, _≤_, _<_}
 use native.Mathlib.Nat.{le-trans, le-of-eq, mul-le-mul, mul-le-mul-left}
 use native.Mathlib.Nat.{div-le-self, div-mul-le-self, le-div-iff-mul-le}
@@ -81,19 +81,16 @@ module _
         (λ i j l h.
         let later = rising (1 + i) (1 + j) (omega arith) (omega arith) (omega arith) in
         omega (arith, later, within (1 + i) (omega arith)))
-        (λ j l. less j (omega arith))
-      where
-        less : (j : ℕ) → Between 1 m′ (1 + j)
-            → (was (1 + j) - 1 < m) × (loadAt group′ R′ g (1 + j) ≤ loadAt group R g (1 + (was (1 + j) - 1)))
-        less j b =
-            let i = was (1 + j) in
-            let w = within (1 + j) b in
-            let place : 1 + (i - 1) ≡ i = omega (arith, w) in (
-              omega (arith, w),
-              subst (λ (k : ℕ). loadAt group′ R′ g (1 + j) ≤ loadAt group R g k) (sym place)
-                  (mul-le-mul (le-of-eq (ap (λ (x : ℕ). same x g) (same-group (1 + j) b)))
-                  (quotient-falls (R i) (R′ (1 + j)) (repetition-positive (R i) (seven i w)) (rarer (1 + j) b))),
-            )
+        (λ j l.
+        let i = was (1 + j) in
+        let b : Between 1 m′ (1 + j) = omega arith in
+        let w = within (1 + j) b in
+        let place : 1 + (i - 1) ≡ i = omega (arith, w) in (
+          omega (arith, w),
+          rw place
+              (mul-le-mul (le-of-eq (ap (λ (x : ℕ). same x g) (same-group (1 + j) b)))
+              (quotient-falls (R i) (R′ (1 + j)) (repetition-positive (R i) (seven i w)) (rarer (1 + j) b))),
+        ))
 
     pub needed-falls : (g : ℕ) → slotsBefore group′ R′ m′ g ≤ slotsBefore group R m g
     needed-falls g =

@@ -158,7 +158,15 @@ module _ (f : Frame) (signal : ℕ) (entry : List ℕ) where
             let past : p .times ≤ n .again .0 = omega arith in
             absurd (omega (arith, mul-le-mul-right (f .repetition) past, n .again .1, p .reached)))
 
--- ---- one frame more in the cells
+-- ---- one frame more
+
+-- what holds of each frame shown and of one more holds of each
+each-more : (P : Placed → Type 0) (ps : List Placed) (p : Placed) → ((q : Placed) → List·Memᴰ q ps → P q) → P p
+    → (q : Placed) → List·Memᴰ q (ps ++ p ∷ []) → P q
+each-more P ps p h one q m =
+    ⊎-elim (h q) (λ i. subst P (sym (List·Memᴰ·eq-of-singleton i)) one) (List·Memᴰ·append-cases ps m)
+
+-- ---- in the cells
 
 module _
     {n : ℕ}
@@ -175,8 +183,8 @@ module _
     its-range = right p (Memᴰ·append-right ps (List·Memᴰ·head refl))
 
     -- a cell of a frame shown before is not painted over by another
-    still : (q : Placed) (k c : ℕ) → List·Memᴰ q ps → c < 64 → Sends (q .frame) k c → cellOf exit k c ≡ q .signal
-    still q k c m l s =
+    still : (k c : ℕ) → c < 64 → (q : Placed) → List·Memᴰ q ps → Sends (q .frame) k c → cellOf exit k c ≡ q .signal
+    still k c l q m s =
         let low = right q (Memᴰ·append-left (p ∷ []) m) .slot .0 in
         dite (sends-or-not (p .frame) its-range k c)
         (λ t. painted .holds k c l t ∙ ap (λ (x : Placed). x .signal) (sym (apart q k c m s t)))
@@ -186,12 +194,9 @@ module _
     cells-more =
         record {
           same-length = painted .same-length ∙ g .same-length;
-          holds = λ q k c m l s.
-              ⊎-elim (λ i. still q k c i l s)
-              (λ i.
-              let e = List·Memᴰ·eq-of-singleton i in
-              subst (λ (x : Placed). Sends (x .frame) k c → cellOf exit k c ≡ x .signal) (sym e) (painted .holds k c l) s)
-              (List·Memᴰ·append-cases ps m);
+          holds = λ q k c m l.
+              each-more (λ x. Sends (x .frame) k c → cellOf exit k c ≡ x .signal) ps p (still k c l) (painted .holds k c l)
+              q m;
           empty = λ k c b l none.
               painted .others k c (b .0) l (none p (Memᴰ·append-right ps (List·Memᴰ·head refl)))
               ∙ g .empty k c b l (λ q m. none q (Memᴰ·append-left (p ∷ []) m));
@@ -203,7 +208,7 @@ module _
               ∙ g .later j h;
         }
 
--- ---- one frame more in the results
+-- ---- in the results
 
 module _
     {s : Settings}
@@ -246,9 +251,7 @@ module _
         subst (ResultsShow s list (ps ++ p ∷ []) entry) (sym (put .put))
         (record {
           same-length = stored-length results (resultStart (p .signal)) (wordsOf (put .result)) ∙ g .same-length;
-          shown = λ q m.
-              ⊎-elim (λ i. other-result q i) (λ i. subst Right (sym (List·Memᴰ·eq-of-singleton i)) its-result)
-              (List·Memᴰ·append-cases ps m);
+          shown = each-more Right ps p other-result its-result;
           later = λ j h.
               stored-others results (resultStart (p .signal)) (wordsOf (put .result)) j (λ q. omega (arith, its-place))
               ∙ g .later j h;

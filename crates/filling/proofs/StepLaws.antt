@@ -23,7 +23,7 @@ use Rattle.filling.specs.Cycles.{Cycles, takes, firstFree}
 use Rattle.filling.specs.Runs.{State, start, goesTo, placed, after}
 use Rattle.filling.specs.Private.{Holds, Holding, NoTrouble, Stepped}
 use Rattle.filling.specs.Private.Stepped.{goes}
-use Rattle.filling.proofs.CycleLaws.{First, first-free}
+use Rattle.filling.proofs.CycleLaws.{first-free}
 use Rattle.filling.proofs.RunLaws.{GoesTo, goes-case}
 use Rattle.filling.proofs.RunLaws.GoesTo.{stay, turn}
 
@@ -32,21 +32,17 @@ use Rattle.filling.proofs.RunLaws.GoesTo.{stay, turn}
 -- the record's first free cycle is the state's
 first-alike : (cycles : Cycles) (s : Slot) → Holds cycles (s .free) → (r : ℕ) → FirstFree s r → r ≡ firstFree cycles
 first-alike cycles s h r f =
-    dite (decLt r (firstFree cycles)) (λ l. absurd (before l)) (λ n.
-    dite (decLt (firstFree cycles) r) (λ l. absurd (behind l)) (λ m. omega arith))
-  where
-    w : First cycles 0 64 (firstFree cycles)
-    w = first-free cycles
-
-    before : r < firstFree cycles → ⊥
-    before l =
-        let small : r < 64 = omega (arith, w .within) in
-        w .before r zero-le l (omega (arith, h r small, f .found small))
-
-    behind : firstFree cycles < r → ⊥
-    behind l =
-        let small : firstFree cycles < 64 = omega (arith, f .within) in
-        f .before (firstFree cycles) l (omega (arith, h (firstFree cycles) small, w .found small))
+    let w = first-free cycles in
+    dite (decLt r (firstFree cycles))
+    (λ l.
+    let small : r < 64 = omega (arith, w .within) in
+    absurd (w .before r zero-le l (omega (arith, h r small, f .found small))))
+    (λ n.
+    dite (decLt (firstFree cycles) r)
+    (λ l.
+    let small : firstFree cycles < 64 = omega (arith, f .within) in
+    absurd (f .before (firstFree cycles) l (omega (arith, h (firstFree cycles) small, w .found small))))
+    (λ m. omega arith))
 
 -- nothing is free where a group begins
 pub start-holds : (k : ℕ) (c : Current) → c .begun ≡ k → c .slot .free ≡ 0 → Holding (c .slot .unit) (start k) c

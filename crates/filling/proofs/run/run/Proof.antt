@@ -68,7 +68,7 @@ placed : (t : tie.After-frame Inv-loop μ-loop)
     Stepped (k .before .group-of .result) (here (k .before) .state) (next (k .before)) (At (t .frame .given .0 .0) (t .frame .given .0 .1 .0))
 placed t =
     let k = t .before .before in
-    subst (Stepped (k .before .group-of .result) (here (k .before) .state) (next (k .before))) (t .frame .given .1) (step k)
+    rw (t .frame .given .1) at (step k)
 
 frames-in-order-requires : tie.Need-frames-in-order-requires Inv-loop μ-loop
 frames-in-order-requires c κs =
@@ -94,7 +94,7 @@ returns : tie.Need-returns Inv-loop μ-loop
 returns c =
     let k = c .before .before in
     let g = here (k .before) in
-    absurd (g .untroubled (subst (Stepped (k .before .group-of .result) (g .state) (next (k .before))) (c .enum-told .given .1) (step k)))
+    absurd (g .untroubled (rw (c .enum-told .given .1) at (step k)))
 
 show-requires : tie.Need-show-requires Inv-loop μ-loop
 show-requires c κs =

@@ -21,10 +21,7 @@ use Rattle.filling.proofs.PlacedLaws.{SoonerAt, within, UsedBefore}
 use Rattle.filling.proofs.FilledLaws.{In, filled-own, filled-some, filled-range, filled-slots, filled-groups}
 use Rattle.filling.proofs.FilledLaws.{filled-one-group, filled-apart, filled-onward, filled-passed}
 
-module _
-    (list : List ℕ)
-    (R : ℕ → ℕ)
-    (frame : ℕ → Frame)
+module _ (list : List ℕ) (R : ℕ → ℕ) (frame : ℕ → Frame)
     (shows : (p : Placed) → List·Memᴰ p (filled list R) → frame (p .signal) ≡ p .frame)
   where
     abbrev m : ℕ
@@ -59,8 +56,7 @@ module _
             apart = λ i j k c a b l.
                 two-frames (λ i j f g. Sends f k c → Sends g k c → i ≡ j)
                 (λ p q x y d e. ap (λ (z : Placed). z .signal) (filled-apart list R seven p q x y k c d e)) i j a b;
-            one-group =
-                two-frames (λ i j f g. f .slot ≡ g .slot → group i ≡ group j) (filled-one-group list R seven);
+            one-group = two-frames (λ i j f g. f .slot ≡ g .slot → group i ≡ group j) (filled-one-group list R seven);
           }
 
       -- ---- the slots used

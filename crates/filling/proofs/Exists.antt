@@ -49,10 +49,7 @@ some-or-none P (y ∷ l) d =
 
 -- ---- the cells
 
-module _
-    (list : List ℕ)
-    (R : ℕ → ℕ)
-    (seven : EachTo (count list) (λ i. Repetition (R i)))
+module _ (list : List ℕ) (R : ℕ → ℕ) (seven : EachTo (count list) (λ i. Repetition (R i)))
     (grp : EachTo (count list) (λ i. groupOf list i < groups))
   where
     range : (p : Placed) → In list R p → FrameInRange (needed list R) (p .frame)

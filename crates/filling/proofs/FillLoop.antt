@@ -238,8 +238,4 @@ module _ (s : Settings) (list words cells₀ results₀ : List ℕ) where
           let past : length fs ≤ i = omega (arith, in-order-length R (count list)) in
           let over : drop i fs ≡ [] = drop-of-length-le fs past in
           let all : g .places ≡ filled list R = rw (over, append-nil) at (g .left) in
-          record {
-            none = refl;
-            table = rw all at (g .table);
-            shown = rw all at (g .shown);
-          }
+          record { none = refl; table = rw all at (g .table); shown = rw all at (g .shown) }

@@ -63,11 +63,7 @@ module _ (group : ℕ → ℕ) where
     abbrev pub AllGood : (Q : ℕ) → (ℕ → State) → List UnitFrame → Type 0
     AllGood Q states fs = (g : ℕ) → Good Q (first g) (load g) (loadOf fs g) (states g)
 
-    module _
-        (states : ℕ → State)
-        (f : UnitFrame)
-        (fs : List UnitFrame)
-        (seven : Repetition (f .repetition))
+    module _ (states : ℕ → State) (f : UnitFrame) (fs : List UnitFrame) (seven : Repetition (f .repetition))
         (all : AllGood (f .repetition) states (f ∷ fs))
       where
         abbrev g : ℕ

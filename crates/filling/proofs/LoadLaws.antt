@@ -66,14 +66,9 @@ quotient-falls a b h l =
     le-div-iff-mul-le {x = 64 / b} {y = 64} h .1 (omega (arith, mul-le-mul-left (64 / b) l, div-mul-le-self 64 b))
 
 -- of m′ signals j was signal `was j` of m, with the same group and no larger repetition
-module _
-    (group group′ R R′ was : ℕ → ℕ)
-    (m m′ : ℕ)
-    (seven : EachTo m (λ i. Repetition (R i)))
-    (rising : (i j : ℕ) → 1 ≤ i → i < j → j ≤ m′ → was i < was j)
-    (within : EachTo m′ (λ j. Between 1 m (was j)))
-    (same-group : EachTo m′ (λ j. group′ j ≡ group (was j)))
-    (rarer : EachTo m′ (λ j. R (was j) ≤ R′ j))
+module _ (group group′ R R′ was : ℕ → ℕ) (m m′ : ℕ) (seven : EachTo m (λ i. Repetition (R i)))
+    (rising : (i j : ℕ) → 1 ≤ i → i < j → j ≤ m′ → was i < was j) (within : EachTo m′ (λ j. Between 1 m (was j)))
+    (same-group : EachTo m′ (λ j. group′ j ≡ group (was j))) (rarer : EachTo m′ (λ j. R (was j) ≤ R′ j))
   where
     load-falls : (g : ℕ) → groupLoad group′ R′ m′ g ≤ groupLoad group R m g
     load-falls g =

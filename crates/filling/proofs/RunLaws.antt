@@ -107,11 +107,7 @@ pub record Fits (k load : ℕ) (s : State) (f : UnitFrame) : Type 0 where
   pub past : k < goesTo s .begun
   pub within : goesTo s .begun ≤ k + slotsFor load
 
-module _
-    (k load left : ℕ)
-    (s : State)
-    (f : UnitFrame)
-    (seven : Repetition (f .repetition))
+module _ (k load left : ℕ) (s : State) (f : UnitFrame) (seven : Repetition (f .repetition))
     (good : Good (f .repetition) k load (64 / f .repetition + left) s)
   where
     abbrev R : ℕ

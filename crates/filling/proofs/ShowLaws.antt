@@ -168,16 +168,10 @@ each-more P ps p h one q m =
 
 -- ---- in the cells
 
-module _
-    {n : ℕ}
-    {ps : List Placed}
-    {entry cells : List ℕ}
-    (g : CellsShow n ps entry cells)
-    (p : Placed)
+module _ {n : ℕ} {ps : List Placed} {entry cells : List ℕ} (g : CellsShow n ps entry cells) (p : Placed)
     (right : (q : Placed) → List·Memᴰ q (ps ++ p ∷ []) → FrameInRange n (q .frame))
     (apart : (q : Placed) (k c : ℕ) → List·Memᴰ q ps → Sends (q .frame) k c → Sends (p .frame) k c → q ≡ p)
-    (exit : List ℕ)
-    (painted : Painted p cells exit)
+    (exit : List ℕ) (painted : Painted p cells exit)
   where
     its-range : FrameInRange n (p .frame)
     its-range = right p (Memᴰ·append-right ps (List·Memᴰ·head refl))
@@ -210,17 +204,10 @@ module _
 
 -- ---- in the results
 
-module _
-    {s : Settings}
-    {list : List ℕ}
-    {ps : List Placed}
-    {entry results : List ℕ}
-    (g : ResultsShow s list ps entry results)
-    (p : Placed)
-    (room : resultSize * count list ≤ length entry)
+module _ {s : Settings} {list : List ℕ} {ps : List Placed} {entry results : List ℕ}
+    (g : ResultsShow s list ps entry results) (p : Placed) (room : resultSize * count list ≤ length entry)
     (own : (q : Placed) → List·Memᴰ q (ps ++ p ∷ []) → Between 1 (count list) (q .signal))
-    (only : (q : Placed) → List·Memᴰ q ps → q .signal ≡ p .signal → q ≡ p)
-    (exit : List ℕ)
+    (only : (q : Placed) → List·Memᴰ q ps → q .signal ≡ p .signal → q ≡ p) (exit : List ℕ)
     (put : Resulted s list p results exit)
   where
     abbrev now : List ℕ

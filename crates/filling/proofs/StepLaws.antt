@@ -74,15 +74,8 @@ module _ {u : ℕ} {s : State} {c : Current} (r : ℕ) (h : Holding u s c) (f : 
 
 -- ---- one frame, in the slot `to` that it goes to, whose first free cycle is b
 
-module _
-    {u : ℕ}
-    (s : State)
-    (f : UnitFrame)
-    (seven : Repetition (f .repetition))
-    (to : Current)
-    (h : Holding u (goesTo s) to)
-    (b : ℕ)
-    (first : FirstFree (to .slot) b)
+module _ {u : ℕ} (s : State) (f : UnitFrame) (seven : Repetition (f .repetition)) (to : Current)
+    (h : Holding u (goesTo s) to) (b : ℕ) (first : FirstFree (to .slot) b)
   where
     abbrev R : ℕ
     R = f .repetition
@@ -98,8 +91,7 @@ module _
     not-below l t = omega (arith, base-alike, t .below)
 
     pub not-free : (AllFree (to .slot) R b → ⊥) → NoTrouble s f → ⊥
-    not-free n t =
-        n (λ c l names. omega (arith, h .cycles c l, t .free c l (named-remainder names ∙ base-alike)))
+    not-free n t = n (λ c l names. omega (arith, h .cycles c l, t .free c l (named-remainder names ∙ base-alike)))
 
     -- and past them both
     module _ (below : b < R) (free : AllFree (to .slot) R b) where

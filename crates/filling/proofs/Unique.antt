@@ -54,11 +54,7 @@ same-list n entry {a} {b} d e later later′ front =
     ext-getD 0 a b (d ∙ sym e) (λ j l.
     dite (decLt j n) (front j) (λ h. let past : n ≤ j = omega arith in later j past ∙ sym (later′ j past)))
 
-module _
-    {slots : ℕ}
-    {places : List Placed}
-    {entry a b : List ℕ}
-    (x : CellsShow slots places entry a)
+module _ {slots : ℕ} {places : List Placed} {entry a b : List ℕ} (x : CellsShow slots places entry a)
     (y : CellsShow slots places entry b)
   where
     -- if a cell were not the same in both, no frame would have it, and it would be 0 in both

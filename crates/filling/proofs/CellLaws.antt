@@ -41,7 +41,7 @@ module _ (k c : ℕ) where
   module _ (s : State) (f : UnitFrame) where
     -- what is gone stays so, and what a frame sends is gone after it
     pub gone-stays : Gone s k c → Gone (after s f) k c
-    gone-stays g = ⊎-elim (λ l. inl l) (λ e. inr (e .0, λ z. e .1 (omega arith))) (gone-there (goes-case s) g)
+    gone-stays g = ⊎-elim inl (λ e. inr (e .0, λ z. e .1 (omega arith))) (gone-there (goes-case s) g)
 
     pub sent-gone : Sends (placed s f .frame) k c → Gone (after s f) k c
     sent-gone (e, n) =

@@ -24,8 +24,7 @@ use Rattle.filling.specs.Shown.{CellsShow, ResultsShow}
 use Rattle.filling.specs.Outcomes.{repetitionIn}
 use Rattle.filling.specs.Private.{Holds, Holding, Stepped, Paintable, placedAt, FrameShown, Runnable, Ran}
 use Rattle.filling.specs.Private.Stepped.{goes, trouble}
-use Rattle.filling.proofs.RunLaws.{Fits, GoesTo, goes-case}
-use Rattle.filling.proofs.RunLaws.GoesTo.{stay, turn}
+use Rattle.filling.proofs.RunLaws.{Fits, goes-case, goes-next}
 use Rattle.filling.proofs.GroupLaws.{stepped, stepped-each, Untroubled}
 use Rattle.filling.proofs.GroupLaws.Untroubled.{goes as goes-well}
 use Rattle.filling.proofs.PlacedLaws.{within}
@@ -46,10 +45,6 @@ held-as {s = s} h b f = record { unit = refl; begun = b ∙ h .begun; cycles = s
 
 no-trouble : {u k load : ℕ} {s : State} {f : UnitFrame} → Fits k load s f → Stepped u s f Trouble → ⊥
 no-trouble h (trouble n) = n (record { below = h .below; free = λ c l e. h .free c e })
-
-goes-least : {s r : State} → GoesTo s r → s .begun ≤ r .begun
-goes-least (stay h) = le-refl _
-goes-least (turn h) = omega arith
 
 -- the first of frames that are in no trouble, and the rest
 first-and-rest : {group first load : ℕ → ℕ} {now : ℕ → State} {f : UnitFrame} {fs : List UnitFrame}
@@ -167,7 +162,7 @@ module _ (s : Settings) (list words cells₀ results₀ : List ℕ) where
             omega (
               arith,
               g .holds own own-group .begun,
-              goes-least (goes-case (g .now own)),
+              goes-next (goes-case (g .now own)),
               in-needed p here .slot,
               needed-most group R (count list) groups,
               runs .fillable .grouped .right .few,

@@ -21,11 +21,11 @@ use Rattle.filling.specs.Ordered.{ordered}
 use Rattle.filling.specs.Runs.{Placed, State, start}
 use Rattle.filling.specs.Filled.{groupLoad, slotsBefore, needed, framesFrom, filled}
 use Rattle.filling.proofs.OrderLaws.{InTurn, two-in-turn, sooner-apart, ordered-total, ordered-from, ordered-in}
-use Rattle.filling.proofs.OrderLaws.{OwnFrame, frames-own, frames-in, frames-total, order-sooner, order-seven}
+use Rattle.filling.proofs.OrderLaws.{frames-own, frames-in, frames-total, order-sooner, order-seven}
 use Rattle.filling.proofs.RunLaws.{start-good}
 use Rattle.filling.proofs.CellLaws.{Past}
 use Rattle.filling.proofs.GroupLaws.{loadOf, last, Untroubled, untroubled}
-use Rattle.filling.proofs.PlacedLaws.{turnOf, SoonerAt, within, groupAt, place-from, place-for, places-sooner}
+use Rattle.filling.proofs.PlacedLaws.{SoonerAt, within, groupAt, place-from, place-for, places-sooner}
 use Rattle.filling.proofs.PlacedLaws.{Leads, UsedBefore, InSlots, places-in, places-lead, passed-used, slots-used}
 
 module _ (list : List ℕ) (R : ℕ → ℕ) where
@@ -53,11 +53,10 @@ module _ (list : List ℕ) (R : ℕ → ℕ) where
 
   -- ---- each signal has one frame, with its repetition
 
-  own-frame : (p : Placed) → In p → OwnFrame R m 1 (turnOf p)
-  own-frame p a = frames-own R m 1 (ordered-from (framesFrom R m 1) (place-from group frames states a))
-
   pub filled-own : (p : Placed) → In p → Between 1 m (p .signal) × (p .frame .repetition ≡ R (p .signal))
-  filled-own p a = let o = own-frame p a in ((o .low, omega (arith, o .high)), o .given)
+  filled-own p a =
+      let o = frames-own R m 1 (ordered-from (framesFrom R m 1) (place-from group frames states a)) in
+      ((o .low, omega (arith, o .high)), o .given)
 
   pub filled-some : EachTo m (λ i. (p : Placed) × In p × (p .signal ≡ i))
   filled-some i b =

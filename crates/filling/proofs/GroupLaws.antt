@@ -75,9 +75,6 @@ module _ (group : ℕ → ℕ) where
             subst (λ (n : ℕ). Good (f .repetition) (first g) (load g) n (states g))
             (omega (arith, ap (λ (x : ℕ). x * (64 / f .repetition)) (same-equal g g refl))) (all g)
 
-        fits-here : Fits (first g) (load g) (states g) f
-        fits-here = fits (first g) (load g) (loadOf fs g) (states g) f seven own
-
         all-after : AllGood (f .repetition) (stepped states f) fs
         unfolding total
         all-after =
@@ -96,6 +93,6 @@ module _ (group : ℕ → ℕ) where
     untroubled (f ∷ fs) states Q q (ahead a t) each all =
         let h = each f (List·Memᴰ·head refl) in
         let here : AllGood (f .repetition) states (f ∷ fs) = λ g. raised q (h .0) (h .1) (all g) in
-        goes (fits-here states f fs (h .0) here)
+        goes (fits _ _ (loadOf fs (group (f .signal))) _ f (h .0) (own states f fs (h .0) here))
         (untroubled fs (stepped states f) (f .repetition) (h .0) t
         (λ x m. (each x (List·Memᴰ·tail m) .0, sooner-rises (a x m))) (all-after states f fs (h .0) here))

@@ -70,9 +70,9 @@ goes-case s = go (ltb (firstFree (s .cycles)) 64) refl
     go true e = stay (ltb-true (firstFree (s .cycles)) 64 e)
     go false e = turn (ltb-false (firstFree (s .cycles)) 64 e)
 
-pub goes-next : {s r : State} → GoesTo s r → r .begun ≤ s .begun + 1
+pub goes-next : {s r : State} → GoesTo s r → (s .begun ≤ r .begun) × (r .begun ≤ s .begun + 1)
 goes-next (stay h) = omega arith
-goes-next (turn h) = le-refl _
+goes-next (turn h) = omega arith
 
 -- it has a free cycle
 goes-free : {s r : State} → GoesTo s r → firstFree (r .cycles) < 64

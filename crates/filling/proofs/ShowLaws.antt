@@ -29,7 +29,7 @@ use Rattle.filling.specs.Shown.{cellOf, CellsShow, ResultOf, ResultsShow
 use Rattle.filling.specs.Private.{placedAt, Paintable, Painted, Resulted}
 
 -- cell j is the cell of a slot and a cycle
-cell-at : (cells : List ℕ) (j : ℕ) → cellOf cells (j / 64 + 1) (j % 64) ≡ getD cells j 0
+pub cell-at : (cells : List ℕ) (j : ℕ) → cellOf cells (j / 64 + 1) (j % 64) ≡ getD cells j 0
 cell-at cells j = let at : 64 * (j / 64 + 1 - 1) + j % 64 ≡ j = omega arith in ap (λ (i : ℕ). getD cells i 0) at
 
 -- ---- words written from the front on, and cells cleared

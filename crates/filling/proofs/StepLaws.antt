@@ -6,6 +6,7 @@ use mathlib.Core.Logic.{_⊎_, inl, inr, dite}
 use Prim.Native.Nat.{ℕ, _+_, _%_, _≤_, _<_, zero-le}
 use native.Mathlib.Decide.{decLt}
 use native.Mathlib.Omega.{arith}
+use borrow.Author.Tests.{lt-ltb, le-ltb}
 use Rattle.laws.proofs.SumLaws.{same-cases}
 use Rattle.terms.specs.declared.Frame.{Frame}
 use Rattle.terms.specs.Ranges.{Repetition}
@@ -24,8 +25,6 @@ use Rattle.filling.specs.Runs.{State, start, goesTo, placed, after}
 use Rattle.filling.specs.Private.{Holds, Holding, NoTrouble, Stepped}
 use Rattle.filling.specs.Private.Stepped.{goes}
 use Rattle.filling.proofs.CycleLaws.{first-free}
-use Rattle.filling.proofs.RunLaws.{GoesTo, goes-case}
-use Rattle.filling.proofs.RunLaws.GoesTo.{stay, turn}
 
 -- ---- the cycles that a slot's record holds
 
@@ -57,20 +56,19 @@ module _ {u : ℕ} {s : State} {c : Current} (r : ℕ) (h : Holding u s c) (f : 
 
   -- the current one while it has a free cycle
   pub goes-kept : r < 64 → Holding u (goesTo s) c
-  goes-kept l = go (goes-case s)
-    where
-      go : {t : State} → GoesTo s t → Holding u t c
-      go (stay k) = h
-      go (turn k) = absurd (omega (arith, alike))
+  unfolding goesTo
+  goes-kept l = rw (lt-ltb (firstFree (s .cycles)) 64 (omega (arith, alike))) h
 
   -- else the next
   pub goes-begun : (d : Current) → 64 ≤ r → Fresh (c .slot .unit) (d .slot) → d .begun ≡ c .begun + 1 → Holding u (goesTo s) d
-  goes-begun d l fresh e = go (goes-case s)
-    where
-      go : {t : State} → GoesTo s t → Holding u t d
-      go (stay k) = absurd (omega (arith, alike))
-      go (turn k) =
-          record { unit = fresh .unit ∙ h .unit; begun = omega (arith, h .begun); cycles = λ i j. omega (arith, fresh .free i j) }
+  unfolding goesTo
+  goes-begun d l fresh e =
+      rw (le-ltb (firstFree (s .cycles)) 64 (omega (arith, alike)))
+      (record {
+        unit = fresh .unit ∙ h .unit;
+        begun = omega (arith, h .begun);
+        cycles = λ i j. omega (arith, fresh .free i j);
+      })
 
 -- ---- one frame, in the slot `to` that it goes to, whose first free cycle is b
 

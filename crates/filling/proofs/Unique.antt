@@ -28,6 +28,7 @@ use Rattle.filling.specs.Shown.{cellOf, CellsShow, ResultOf, EachResult,
 use Rattle.filling.specs.Outcomes.{repetitionIn, FillOutcome}
 use Rattle.filling.specs.Outcomes.FillOutcome.{unfit, short, done}
 use Rattle.filling.proofs.LoadLaws.{needed-same}
+use Rattle.filling.proofs.ShowLaws.{cell-at}
 use Rattle.filling.proofs.FilledLaws.{filled-some}
 
 -- ---- of the repetitions of the signals alone
@@ -68,8 +69,7 @@ module _ {slots : ℕ} {places : List Placed} {entry a b : List ℕ} (x : CellsS
     pub cells-one : a ≡ b
     cells-one =
         same-list (64 * slots) entry (x .same-length) (y .same-length) (x .later) (y .later) (λ j l.
-        let place : 64 * (1 + j / 64 - 1) + j % 64 ≡ j = omega arith in
-        subst (λ (i : ℕ). getD a i 0 ≡ getD b i 0) place (same-cell (1 + j / 64) (j % 64) (omega arith) (omega arith)))
+        sym (cell-at a j) ∙ same-cell (j / 64 + 1) (j % 64) (omega arith) (omega arith) ∙ cell-at b j)
 
 module _ (s : Settings) (list : List ℕ) where
   result-one : (p : Placed) {q r : Result} → ResultOf s list p q → ResultOf s list p r → q ≡ r

@@ -1,10 +1,10 @@
--- The laws of a slot's cycles: a frame takes 64/R of them, its cycles repeat, and the first free cycle is the first.
+-- The laws of a slot's cycles: a frame takes 64/R of them, and the first free cycle is the first.
 -- Assumes nothing.
-use mathlib.Core.Path.{_≡_, refl, sym, ap, _∙_}
+use mathlib.Core.Path.{_≡_, refl, ap, _∙_}
 use mathlib.Core.Bool.{Bool, true, false, cond}
 use mathlib.Core.Logic.{⊎-elim}
-use Prim.Native.Nat.{ℕ, zero, suc, _+_, _*_, _/_, _%_, _≤_, _<_}
-use native.Mathlib.Nat.{mod-mod, mod-eq-of-lt, add-mod-left, div-add-mod', le-div-iff-mul-le, eq-or-lt-of-le}
+use Prim.Native.Nat.{ℕ, zero, suc, _+_, _*_, _/_, _≤_, _<_}
+use native.Mathlib.Nat.{mod-eq-of-lt, add-mod-left, div-add-mod', le-div-iff-mul-le, eq-or-lt-of-le}
 use native.Mathlib.Omega.{arith}
 use borrow.Author.Tests.{eqb-true, eqb-false}
 use lib.Dec.{eqb}
@@ -16,9 +16,6 @@ use Rattle.terms.proofs.RepetitionLaws.{repetition-positive, repetition-most}
 use Rattle.filling.specs.Cycles.{Cycles, takes, seek, firstFree}
 
 -- ---- a frame's cycles
-
-pub takes-again : (R b c : ℕ) → takes R b c ≡ takes R b (c % R)
-takes-again R b c = ap (same b) (sym (mod-mod c R))
 
 module _ (R : ℕ) (seven : Repetition R) where
   pub share-positive : 1 ≤ 64 / R

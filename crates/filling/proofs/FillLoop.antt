@@ -1,7 +1,7 @@
 -- The loop that fills: what holds before each frame in the order of filling, how it goes on with a frame, and what is
 -- shown at its end.
 -- Assumes nothing.
-use mathlib.Core.Path.{_≡_, refl, sym, ap, ap₂, subst, _∙_}
+use mathlib.Core.Path.{_≡_, refl, sym, subst, _∙_}
 use mathlib.Core.List.{List, [], _∷_, _++_, append-nil, append-assoc}
 use mathlib.Core.List.{List·Memᴰ, List·Memᴰ·not-nil, List·Memᴰ·head, Memᴰ·append-left, Memᴰ·append-right}
 use Prim.Native.Nat.{ℕ, _+_, _≤_, _<_}
@@ -58,9 +58,8 @@ pub next-frame : (list : List ℕ) (R : ℕ → ℕ) (array : List UnitFrame) (i
     → take (count list) array ≡ frames list R → i < count list
     → drop i (frames list R) ≡ getD array i d ∷ drop (i + 1) (frames list R)
 next-frame list R array i d e h =
-    drop-cons (frames list R) i d (omega (arith, in-order-length R (count list)))
-    ∙ ap₂ (λ (f : UnitFrame) (k : ℕ). f ∷ drop k (frames list R))
-    (ap (λ (l : List UnitFrame). getD l i d) (sym e) ∙ getD-take (count list) array i d h) (sym (add-one i))
+    let inside : i < length (frames list R) = omega (arith, in-order-length R (count list)) in
+    rw (drop-cons (frames list R) i d inside, add-one i, sym e, getD-take (count list) array i d h)
 
 -- ---- the loop
 

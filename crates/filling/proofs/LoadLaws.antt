@@ -3,7 +3,7 @@
 -- Assumes nothing.
 use mathlib.Core.Path.{_≡_, refl, ap}
 use Prim.Native.Nat.{ℕ, _+_, _*_, _-_, _/_, _≤_, _<_}
-use native.Mathlib.Nat.{le-trans, le-of-eq, mul-le-mul, mul-le-mul-left}
+use native.Mathlib.Nat.{le-of-eq, mul-le-mul, mul-le-mul-left}
 use native.Mathlib.Nat.{div-le-self, div-mul-le-self, le-div-iff-mul-le}
 use native.Mathlib.Omega.{arith}
 use Rattle.laws.specs.Lowest.{Between, EachTo}
@@ -39,10 +39,9 @@ module _ (group R : ℕ → ℕ) (m : ℕ) where
   load-members : (g : ℕ) → groupLoad group R m g ≤ 64 * sum (ofGroup g) m
   unfolding ofGroup
   load-members g =
-      le-trans
-      (sum-le (λ i. loadAt group R g (1 + i)) (λ i. 64 * ofGroup g i) m
-      (λ i l. omega (arith, mul-le-mul-left (ofGroup g i) (div-le-self 64 (R (1 + i))))))
-      (le-of-eq (sum-times 64 (ofGroup g) m))
+      let each = sum-le (λ i. loadAt group R g (1 + i)) (λ i. 64 * ofGroup g i) m
+      (λ i l. omega (arith, mul-le-mul-left (ofGroup g i) (div-le-self 64 (R (1 + i))))) in
+      omega (arith, each, sum-times 64 (ofGroup g) m)
 
   pub load-most : (g : ℕ) → groupLoad group R m g ≤ 64 * m
   unfolding ofGroup

@@ -5,21 +5,21 @@ use mathlib.Core.Path.{_≡_, refl, sym, ap, ap₂, _∙_}
 use mathlib.Core.Bool.{Bool, true, false, cond}
 use mathlib.Core.Logic.{⊎-elim, dite}
 use Prim.Native.Nat.{ℕ, _+_, _*_, _/_, _%_, _≤_, _<_, zero-le}
-use native.Mathlib.Nat.{le-refl, mod-lt, mod-le, mod-add-div'}
+use native.Mathlib.Nat.{le-refl, mod-lt, mod-le, mod-mod, mod-add-div'}
 use native.Mathlib.Decide.{decLt}
 use native.Mathlib.Omega.{arith}
 use borrow.Author.Tests.{ltb-true, ltb-false}
 use lib.Dec.{ltb}
-use Rattle.laws.specs.Sums.{sum}
+use Rattle.laws.specs.Sums.{sum, same}
 use Rattle.laws.proofs.SumLaws.{same-cases, sum-ext, sum-le, sum-const, sum-add}
 use Rattle.laws.proofs.RemainderLaws.{same-remainder}
 use Rattle.terms.specs.Ranges.{Repetition}
 use Rattle.terms.proofs.RepetitionLaws.{repetition-positive, repetition-multiple}
 use Rattle.cycles.specs.Loads.{slotsFor}
 use Rattle.filling.specs.declared.UnitFrame.{UnitFrame}
-use Rattle.filling.specs.Cycles.{takes, firstFree}
+use Rattle.filling.specs.Cycles.{takes, seek, firstFree}
 use Rattle.filling.specs.Runs.{State, start, next, goesTo, after}
-use Rattle.filling.proofs.CycleLaws.{takes-again, takes-sum, share-positive, first-free}
+use Rattle.filling.proofs.CycleLaws.{takes-sum, share-positive, first-free}
 
 -- behind k slots of others, where `left` of a load is to come and the last repetition was Q: no cycle is taken twice,
 -- what is taken repeats after Q cycles, and the slots begun are full but for the current one's free cycles
@@ -44,17 +44,15 @@ end-reaches g = omega (arith, g .full, cycles-most g)
 pub raised : {Q R k load left : ℕ} {s : State} → Repetition Q → Repetition R → Q ≤ R → Good Q k load left s
     → Good R k load left s
 raised {Q} {R} {s = s} q r h g =
+    let n = repetition-multiple Q R q r h in
+    let shorter : (c : ℕ) → c % R % Q ≡ c % Q = λ c.
+    same-remainder Q (c % R) c (c / R * n .0, 0, omega (arith, mod-add-div' c R, ap (λ (z : ℕ). c / R * z) (n .1))) in
     record {
       once = g .once;
       again = λ c. g .again c ∙ ap (s .cycles) (sym (shorter c)) ∙ sym (g .again (c % R));
       part = g .part;
       full = g .full;
     }
-  where
-    shorter : (c : ℕ) → c % R % Q ≡ c % Q
-    shorter c =
-        let n = repetition-multiple Q R q r h in
-        same-remainder Q (c % R) c (c / R * n .0, 0, omega (arith, mod-add-div' c R, ap (λ (z : ℕ). c / R * z) (n .1)))
 
 -- ---- the slot that a frame goes to
 
@@ -76,26 +74,22 @@ goes-next (turn h) = omega arith
 
 -- it has a free cycle
 goes-free : {s r : State} → GoesTo s r → firstFree (r .cycles) < 64
+unfolding firstFree seek
 goes-free (stay h) = h
-goes-free (turn h) =
-    let f = first-free (λ c. 0) in
-    dite (decLt (firstFree (λ c. 0)) 64) (λ l. l) (λ l. absurd (f .before 0 (le-refl 0) (omega arith) refl))
+goes-free (turn h) = omega arith
 
 goes-good : {Q k load left : ℕ} {s r : State} → Good Q k load left s → GoesTo s r → Good Q k load left r
 goes-good g (stay h) = g
 goes-good {s = s} g (turn h) =
+    -- a slot with no free cycle is full
+    let each : (c : ℕ) → c < 64 → s .cycles c ≡ 1 = λ c l.
+    let p : s .cycles c ≡ 0 → ⊥ = first-free (s .cycles) .before c zero-le (omega arith) in omega (arith, g .once c, p) in
     record {
       once = λ c. zero-le;
       again = λ c. refl;
       part = g .part;
       full = omega (arith, g .full, sum-ext (s .cycles) (λ c. 1) 64 each, sum-const 1 64, sum-const 0 64);
     }
-  where
-    -- a slot with no free cycle is full
-    each : (c : ℕ) → c < 64 → s .cycles c ≡ 1
-    each c l =
-        let p : s .cycles c ≡ 0 → ⊥ = first-free (s .cycles) .before c zero-le (omega arith) in
-        omega (arith, g .once c, p)
 
 -- ---- one frame
 
@@ -142,7 +136,7 @@ module _ (k load left : ℕ) (s : State) (f : UnitFrame) (seven : Repetition (f 
           once = λ c.
               ⊎-elim (λ q. omega (arith, all-free c (sym (q .0)), q .1)) (λ q. omega (arith, here .once c, q .1))
               (same-cases base (c % R));
-          again = λ c. ap₂ (λ (x y : ℕ). x + y) (here .again c) (takes-again R base c);
+          again = λ c. ap₂ (λ (x y : ℕ). x + y) (here .again c) (ap (same base) (sym (mod-mod c R)));
           part = omega (arith, here .part);
           full = omega (arith, here .full, added);
         }

@@ -75,27 +75,23 @@ module _ (list : List ℕ) (R : ℕ → ℕ) (seven : EachTo (count list) (λ i.
     abbrev CellAt : (j x : ℕ) → Type 0
     CellAt j x = Cell (1 + j / 64) (j % 64) x
 
-    module _ (slots : ℕ) (fits : needed list R ≤ slots) (entry : List ℕ) where
-      cells-show : (exit : List ℕ) → Front CellAt entry exit (64 * slots) → CellsShow slots (filled list R) entry exit
-      cells-show exit f =
+    cells-exist : (slots : ℕ) → needed list R ≤ slots → (entry : List ℕ) → 64 * slots ≤ length entry
+        → (exit : List ℕ) × CellsShow slots (filled list R) entry exit
+    cells-exist slots fits entry room =
+        let e = front-exists (64 * slots) CellAt entry room (λ j l. cell (1 + j / 64) (j % 64)) in
+        let at : (k c : ℕ) → Between 1 slots k → c < 64 → Cell k c (cellOf (e .0) k c) = λ k c b l.
+        let j = 64 * (k - 1) + c in
+        let slot : 1 + j / 64 ≡ k = omega arith in
+        let cycle : j % 64 ≡ c = omega arith in
+        subst₂ (λ (k c : ℕ). Cell k c (getD (e .0) j 0)) slot cycle (e .1 .first j (omega arith)) in (
+          e .0,
           record {
-            same-length = f .same-length;
+            same-length = e .1 .same-length;
             holds = λ p k c a l s. at k c (omega (arith, range p a .slot, s .0, fits)) l .holds p a s;
             empty = λ k c b l none. at k c b l .empty none;
-            later = f .later;
-          }
-        where
-          at : (k c : ℕ) → Between 1 slots k → c < 64 → Cell k c (cellOf exit k c)
-          at k c b l =
-              let j = 64 * (k - 1) + c in
-              let slot : 1 + j / 64 ≡ k = omega arith in
-              let cycle : j % 64 ≡ c = omega arith in
-              subst₂ (λ (k c : ℕ). Cell k c (getD exit j 0)) slot cycle (f .first j (omega arith))
-
-      cells-exist : 64 * slots ≤ length entry → (exit : List ℕ) × CellsShow slots (filled list R) entry exit
-      cells-exist room =
-          let e = front-exists (64 * slots) CellAt entry room (λ j l. cell (1 + j / 64) (j % 64)) in
-          (e .0, cells-show (e .0) (e .1))
+            later = e .1 .later;
+          },
+        )
 
 -- ---- the results
 
@@ -121,29 +117,26 @@ module _ (s : Settings) (list : List ℕ) where
           λ p a e. ap (λ (q : Placed). wordOf q (j % resultSize)) (filled-only list R (r .0) p (r .1) a (r .2 ∙ sym e)),
         )
 
-    results-show : (entry exit : List ℕ) → Front WordAt entry exit (resultSize * count list)
-        → ResultsShow s list (filled list R) entry exit
-    results-show entry exit f =
-        record {
-          same-length = f .same-length;
-          shown = λ p a.
-              let at = resultStart (p .signal) in
-              let own = filled-own list R p a .0 in
-              subst (ResultOf s list p)
-              (sym
-              (same-result (λ d. getD exit (at + d) 0) (wordOf p) (λ d l.
-              let signal : p .signal ≡ 1 + (at + d) / resultSize = omega (arith, own) in
-              let rest : (at + d) % resultSize ≡ d = omega arith in
-              f .first (at + d) (omega (arith, own)) p a signal ∙ ap (wordOf p) rest)))
-              (result p .1);
-          later = f .later;
-        }
-
     results-exist : (entry : List ℕ) → resultSize * count list ≤ length entry
         → (exit : List ℕ) × ResultsShow s list (filled list R) entry exit
     results-exist entry room =
-        let e = front-exists (resultSize * count list) WordAt entry room word in
-        (e .0, results-show entry (e .0) (e .1))
+        let e = front-exists (resultSize * count list) WordAt entry room word in (
+          e .0,
+          record {
+            same-length = e .1 .same-length;
+            shown = λ p a.
+                let at = resultStart (p .signal) in
+                let own = filled-own list R p a .0 in
+                subst (ResultOf s list p)
+                (sym
+                (same-result (λ d. getD (e .0) (at + d) 0) (wordOf p) (λ d l.
+                let signal : p .signal ≡ 1 + (at + d) / resultSize = omega (arith, own) in
+                let rest : (at + d) % resultSize ≡ d = omega arith in
+                e .1 .first (at + d) (omega (arith, own)) p a signal ∙ ap (wordOf p) rest)))
+                (result p .1);
+            later = e .1 .later;
+          },
+        )
 
 -- ---- both
 

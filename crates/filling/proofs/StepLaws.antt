@@ -1,14 +1,13 @@
 -- The laws of the step that places a frame: what the routines of the slot's record promise is what filling does with the
 -- state that the record holds.
 -- Assumes nothing.
-use mathlib.Core.Path.{_≡_, refl, sym, ap, ap₂, subst, _∙_}
+use mathlib.Core.Path.{_≡_, refl, sym, ap, _∙_}
 use mathlib.Core.Logic.{_⊎_, inl, inr, dite}
 use Prim.Native.Nat.{ℕ, _+_, _%_, _≤_, _<_, zero-le}
 use native.Mathlib.Decide.{decLt}
 use native.Mathlib.Omega.{arith}
 use borrow.Author.Tests.{lt-ltb, le-ltb}
 use Rattle.laws.proofs.SumLaws.{same-cases}
-use Rattle.terms.specs.declared.Frame.{Frame}
 use Rattle.terms.specs.Ranges.{Repetition}
 use Rattle.cycles.specs.declared.Slot.{Slot}
 use Rattle.cycles.specs.Bits.{bit, Shows}
@@ -21,7 +20,7 @@ use Rattle.filling.specs.declared.UnitFrame.{UnitFrame}
 use Rattle.filling.specs.declared.run.Current.{Current}
 use Rattle.filling.specs.declared.run.Step.the-variants.{At}
 use Rattle.filling.specs.Cycles.{Cycles, takes, firstFree}
-use Rattle.filling.specs.Runs.{State, start, goesTo, placed, after}
+use Rattle.filling.specs.Runs.{State, start, goesTo, after}
 use Rattle.filling.specs.Private.{Holds, Holding, NoTrouble, Stepped}
 use Rattle.filling.specs.Private.Stepped.{goes}
 use Rattle.filling.proofs.CycleLaws.{first-free}
@@ -117,8 +116,6 @@ module _ {u : ℕ} (s : State) (f : UnitFrame) (seven : Repetition (f .repetitio
 
         pub frame-placed : Stepped u s f (At (record { slot = to .begun; repetition = R; base = b }) d)
         frame-placed =
-            let there : placed s f .frame ≡ record { slot = to .begun; repetition = R; base = b } =
-            ap₂ (λ (k x : ℕ). record { slot = k; repetition = R; base = x }) (sym (h .begun)) (sym base-alike) in
-            subst (λ (x : Frame). Stepped u s f (At x d)) there
+            rw (h .begun, base-alike)
             (goes (record { below = omega (arith, base-alike); free = untaken })
             (record { unit = t .unit ∙ h .unit; begun = e ∙ h .begun; cycles = taken-holds }))

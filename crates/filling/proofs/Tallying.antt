@@ -1,6 +1,6 @@
 -- The loops over signals and groups: each signal is tallied in its group's load, and the slots of the groups add up.
 -- Assumes nothing.
-use mathlib.Core.Path.{_≡_, refl, sym, ap, subst, _∙_}
+use mathlib.Core.Path.{_≡_, refl, sym, ap, _∙_}
 use mathlib.Core.List.{List}
 use mathlib.Core.Logic.{dite}
 use Prim.Native.Nat.{ℕ, _+_, _*_, _-_, _/_, _≤_, _<_}
@@ -73,10 +73,7 @@ module _ (group R : ℕ → ℕ) (m : ℕ) where
             record {
               last = omega arith;
               whole = length-set loads g load ∙ t .whole;
-              tallied = λ k l.
-                  dite (ℕ-discrete k g)
-                  (λ e. subst (λ (n : ℕ). getD (set loads g load) n 0 ≡ groupLoad group R (i + 1) n) (sym e) its-load)
-                  (λ n. others k l n);
+              tallied = λ k l. dite (ℕ-discrete k g) (λ e. rw e its-load) (others k l);
             }
 
     pub tallying-all : m ≤ i → (g : ℕ) → g < groups → getD loads g 0 ≡ groupLoad group R m g

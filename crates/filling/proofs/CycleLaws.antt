@@ -51,7 +51,8 @@ seek-first cycles (suc n) c = go (eqb (cycles c) 0) refl (seek-first cycles n (s
         record {
           within = omega (arith, later .within);
           before = λ i l h z.
-              ⊎-elim (λ q. eqb-false (cycles c) 0 e (ap cycles q ∙ z)) (λ q. later .before i q h z) (eq-or-lt-of-le l);
+              ⊎-elim (λ q. eqb-false (cycles c) 0 e (ap cycles q ∙ z)) (λ q. later .before i q h z)
+              (eq-or-lt-of-le l);
           found = λ h. later .found (omega arith);
         }
 

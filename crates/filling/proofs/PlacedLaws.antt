@@ -154,8 +154,8 @@ module _ (group : ℕ → ℕ) where
     -- ---- no cell and no slot left out
 
     -- every cell before a place was gone over at first, or is in use by a place before it
-    pub passed-used : {states : ℕ → State} {fs : List UnitFrame} {all : List Placed} → Going states fs → InTurn Sooner fs
-        → ((q : Placed) → Among states fs q → List·Memᴰ q all)
+    pub passed-used : {states : ℕ → State} {fs : List UnitFrame} {all : List Placed} → Going states fs
+        → InTurn Sooner fs → ((q : Placed) → Among states fs q → List·Memᴰ q all)
         → {p : Placed} → Among states fs p → (k c : ℕ) → c < 64 → Past p k c
         → Gone (states (groupAt p)) k c ⊎ UsedBefore all p k c
     unfolding fillFrom
@@ -166,8 +166,8 @@ module _ (group : ℕ → ℕ) where
         (passed-gone k c (current group states f) f l) b)
     passed-used {all = all} (goes {states} {f} {fs} h u) (ahead a t) in-all {p} (List·Memᴰ·tail m) k c l b =
         ⊎-elim
-        (stepped-each group (λ x s. x ≡ groupAt p → Gone s k c → Gone (states x) k c ⊎ UsedBefore all p k c) states f here
-        (λ x n e. inl) (groupAt p) refl)
+        (stepped-each group (λ x s. x ≡ groupAt p → Gone s k c → Gone (states x) k c ⊎ UsedBefore all p k c) states f
+        here (λ x n e. inl) (groupAt p) refl)
         inr (passed-used u t (λ q i. in-all q (List·Memᴰ·tail i)) m k c l b)
       where
         here : group (f .signal) ≡ groupAt p → Gone (after (current group states f) f) k c

@@ -83,7 +83,8 @@ goes-good g (stay h) = g
 goes-good {s = s} g (turn h) =
     -- a slot with no free cycle is full
     let each : (c : ℕ) → c < 64 → s .cycles c ≡ 1 = λ c l.
-    let p : s .cycles c ≡ 0 → ⊥ = first-free (s .cycles) .before c zero-le (omega arith) in omega (arith, g .once c, p) in
+    let taken : s .cycles c ≡ 0 → ⊥ = first-free (s .cycles) .before c zero-le (omega arith) in
+    omega (arith, g .once c) in
     record {
       once = λ c. zero-le;
       again = λ c. refl;

@@ -189,8 +189,8 @@ module _ {n : ℕ} {ps : List Placed} {entry cells : List ℕ} (g : CellsShow n 
         record {
           same-length = painted .same-length ∙ g .same-length;
           holds = λ q k c m l.
-              each-more (λ x. Sends (x .frame) k c → cellOf exit k c ≡ x .signal) ps p (still k c l) (painted .holds k c l)
-              q m;
+              each-more (λ x. Sends (x .frame) k c → cellOf exit k c ≡ x .signal) ps p (still k c l)
+              (painted .holds k c l) q m;
           empty = λ k c b l none.
               painted .others k c (b .0) l (none p (Memᴰ·append-right ps (List·Memᴰ·head refl)))
               ∙ g .empty k c b l (λ q m. none q (Memᴰ·append-left (p ∷ []) m));

@@ -122,7 +122,7 @@ run-spec =
     tie.close
     (tie.spec Inv-loop μ-loop (λ c κs. search needs) frames-in-order-requires loop-holds (λ c. omega arith)
     (λ c. omega arith) (λ c κs. search needs) (λ c. omega arith) (λ c. omega arith) own (λ c. omega arith) own
-    place-requires (λ c. search needs) (λ c. search needs) (λ c. omega arith) (λ c. omega arith) returns (λ c. omega arith)
-    (λ c. own (c .before .before .before .before .before)) (λ c. omega arith)
+    place-requires (λ c. search needs) (λ c. search needs) (λ c. omega arith) (λ c. omega arith) returns
+    (λ c. omega arith) (λ c. own (c .before .before .before .before .before)) (λ c. omega arith)
     (λ c. own (c .before .before .before .before .before)) show-requires (λ c. omega arith) (λ c. omega arith)
     loop-again (λ c. omega arith) (λ c. omega arith) returns-2)

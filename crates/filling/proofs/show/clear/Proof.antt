@@ -19,7 +19,7 @@ loop-holds c = (front-none _ _, omega arith, omega arith)
 loop-again : tie.Need-loop-again Inv-loop μ-loop
 loop-again c =
     let l = c .before in
-    (front-next _ _ (l .loop .cells) (l .loop .j) 0 (l .loop .inv .0) (omega arith) refl, omega arith, l .loop .inv .2)
+    (front-next _ _ (l .loop .cells) (l .loop .j) 0 (l .loop .inv .0) (omega arith) refl, omega arith, omega arith)
 
 returns : tie.Need-returns Inv-loop μ-loop
 returns c = let l = c .before in clearing-all _ _ (l .loop .cells) (l .loop .j) (l .loop .inv .0) (omega arith)

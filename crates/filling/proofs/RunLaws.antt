@@ -127,9 +127,7 @@ module _ (k load left : ℕ) (s : State) (f : UnitFrame) (seven : Repetition (f 
     all-free c e = here .again c ∙ ap (goesTo s .cycles) e ∙ found
 
     added : sum (after s f .cycles) 64 ≡ sum (goesTo s .cycles) 64 + 64 / R
-    added =
-        sum-add (goesTo s .cycles) (takes R base) 64
-        ∙ ap (λ (x : ℕ). sum (goesTo s .cycles) 64 + x) (takes-sum R seven base below-repetition)
+    added = sum-add (goesTo s .cycles) (takes R base) 64 ∙ omega (arith, takes-sum R seven base below-repetition)
 
     pub after-good : Good R k load left (after s f)
     after-good =

@@ -109,9 +109,6 @@ module _ (f : Frame) (signal : ℕ) (entry : List ℕ) where
 
   module _ (cells : List ℕ) (c : ℕ) (p : Painting cells c) where
     module _ (can : Paintable entry f) (small : c < 64) where
-      here : Named c
-      here = record { repetition = can .frame .repetition; base = can .frame .base; again = (p .times, p .reached) }
-
       abbrev at : ℕ
       at = 64 * (f .slot - 1) + c
 
@@ -120,8 +117,9 @@ module _ (f : Frame) (signal : ℕ) (entry : List ℕ) where
 
       one-cell : (k d : ℕ) → 1 ≤ k → d < 64 → 64 * (k - 1) + d ≡ at → Sends f k d
       one-cell k d l h e =
-          let same : c ≡ d = omega (arith, can .frame .slot) in
-          (omega (arith, can .frame .slot), subst Named same here)
+          let r = can .frame in
+          let again : d ≡ f .base + p .times * f .repetition = omega (arith, r .slot, p .reached) in
+          (omega (arith, r .slot), record { repetition = r .repetition; base = r .base; again = (p .times, again) })
 
       earlier : (n : ℕ) → n < p .times → f .base + n * f .repetition < c
       earlier n l =

@@ -35,7 +35,7 @@ module _ (list : List ℕ) (R : ℕ → ℕ) (frame : ℕ → Frame)
         → EachTo m (λ i. P i (frame i))
     each-frame P h i b =
         let r = filled-some list R i b in
-        subst (λ (j : ℕ). P j (frame j)) (r .2) (subst (P (r .0 .signal)) (sym (shows (r .0) (r .1))) (h (r .0) (r .1)))
+        rw (sym (r .2), shows (r .0) (r .1)) (h (r .0) (r .1))
 
     pub two-frames : (P : ℕ → ℕ → Frame → Frame → Type 0)
         → ((p q : Placed) → In list R p → In list R q → P (p .signal) (q .signal) (p .frame) (q .frame))

@@ -110,9 +110,7 @@ module _ (group : ℕ → ℕ) where
         → (k c : ℕ) → Gone (states (groupAt p)) k c → Sends (p .frame) k c → ⊥
     unfolding fillFrom
     unsent (ended r) m k c = absurd (List·Memᴰ·not-nil m)
-    unsent (goes {states} {f} h u) (List·Memᴰ·head e) k c =
-        subst (λ (p : Placed). Gone (states (groupAt p)) k c → Sends (p .frame) k c → ⊥) (sym e)
-        (gone-unsent k c (current group states f) f h)
+    unsent (goes {states} {f} h u) (List·Memᴰ·head e) k c = rw e (gone-unsent k c (current group states f) f h)
     unsent (goes {states} {f} h u) {p} (List·Memᴰ·tail m) k c = λ g.
         unsent u m k c
         (stepped-each group (λ x s. Gone (states x) k c → Gone s k c) states f
@@ -161,9 +159,7 @@ module _ (group : ℕ → ℕ) where
     unfolding fillFrom
     passed-used (ended r) t in-all m k c l b = absurd (List·Memᴰ·not-nil m)
     passed-used (goes {states} {f} h u) t in-all (List·Memᴰ·head e) k c l b =
-        inl
-        (subst (λ (p : Placed). Past p k c → Gone (states (groupAt p)) k c) (sym e)
-        (passed-gone k c (current group states f) f l) b)
+        inl (rw e (passed-gone k c (current group states f) f l (rw e at b)))
     passed-used {all = all} (goes {states} {f} {fs} h u) (ahead a t) in-all {p} (List·Memᴰ·tail m) k c l b =
         ⊎-elim
         (stepped-each group (λ x s. x ≡ groupAt p → Gone s k c → Gone (states x) k c ⊎ UsedBefore all p k c) states f

@@ -3,7 +3,7 @@
 -- Assumes nothing.
 use mathlib.Core.Path.{_≡_, sym, ap, _∙_}
 use Prim.Native.Nat.{ℕ, _+_, _*_, _/_, _%_, _≤_, _<_, min}
-use native.Mathlib.Nat.{mul-one, mul-right-comm, mul-le-mul, mul-le-mul-left, mul-le-mul-right}
+use native.Mathlib.Nat.{mul-right-comm, mul-le-mul, mul-le-mul-left, mul-le-mul-right}
 use native.Mathlib.Omega.{arith}
 use Rattle.laws.specs.Sums.{sum, same}
 use Rattle.laws.proofs.Orders.{factors-positive}
@@ -99,8 +99,7 @@ module _ (n m : ℕ) (group : ℕ → ℕ) (frame : ℕ → Frame) (drawn : Draw
           let x = same (group (1 + i)) g in
           let at : ℕ → ℕ = λ k. same (frame (1 + i) .slot) (1 + k) in
           let s = drawn .frames (1 + i) (omega arith) .slot in
-          sym (mul-one (x * share i))
-          ∙ ap (λ (y : ℕ). x * share i * y) (sym (sum-same-from-one (frame (1 + i) .slot) n (s .0) (s .1)))
+          omega (arith, ap (λ (y : ℕ). x * share i * y) (sum-same-from-one (frame (1 + i) .slot) n (s .0) (s .1)))
           ∙ sym (sum-times (x * share i) at n)
           ∙ sum-ext (λ k. x * share i * at k) (λ k. x * at k * share i) n (λ k h. mul-right-comm x (share i) (at k))
 

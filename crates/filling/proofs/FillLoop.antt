@@ -22,7 +22,7 @@ use Rattle.filling.specs.Runs.{Placed, State, placed, after}
 use Rattle.filling.specs.Filled.{needed, fillFrom, filled}
 use Rattle.filling.specs.Shown.{CellsShow, ResultsShow}
 use Rattle.filling.specs.Outcomes.{repetitionIn}
-use Rattle.filling.specs.Private.{Holds, Holding, Stepped, Paintable, placedAt, FrameShown, Runnable, Ran}
+use Rattle.filling.specs.Private.{Holding, Stepped, Paintable, placedAt, FrameShown, Runnable, Ran}
 use Rattle.filling.specs.Private.Stepped.{goes, trouble}
 use Rattle.filling.proofs.RunLaws.{Fits, goes-case, goes-next}
 use Rattle.filling.proofs.GroupLaws.{stepped, stepped-each, Untroubled}
@@ -41,7 +41,7 @@ currentIn begun free g = record { slot = record { unit = g; free = getD free g 0
 
 held-as : {u : ℕ} {s : State} {c d : Current} → Holding u s c → d .begun ≡ c .begun → d .slot .free ≡ c .slot .free
     → Holding (d .slot .unit) s d
-held-as {s = s} h b f = record { unit = refl; begun = b ∙ h .begun; cycles = subst (Holds (s .cycles)) (sym f) (h .cycles) }
+held-as h b f = record { unit = refl; begun = b ∙ h .begun; cycles = rw f (h .cycles) }
 
 no-trouble : {u k load : ℕ} {s : State} {f : UnitFrame} → Fits k load s f → Stepped u s f Trouble → ⊥
 no-trouble h (trouble n) = n (record { below = h .below; free = λ c l e. h .free c e })

@@ -4,8 +4,8 @@
 use mathlib.Core.Path.{_≡_, refl, sym, ap, _∙_}
 use mathlib.Core.List.{List, [], _∷_, _++_}
 use mathlib.Core.Logic.{dite}
-use Prim.Native.Nat.{ℕ, zero, suc, _+_, _/_, _%_, _^_, _≤_, _<_}
-use native.Mathlib.Nat.{not-suc-le-zero, add-zero}
+use Prim.Native.Nat.{ℕ, zero, suc, _+_, _/_, _%_, _^_, _<_}
+use native.Mathlib.Nat.{not-suc-le-zero}
 use native.Mathlib.Numerals.{add-one}
 use native.Mathlib.Decide.{ℕ-discrete}
 use native.Mathlib.Omega.{arith}
@@ -13,8 +13,6 @@ use lib.ListN.{length, getD, drop, set, length-set, length-append, List·getD-ap
 use lib.Seq.{drop-cons, set-at, getD-at, append-snoc, ext-getD}
 use borrow.Author.Count.{below-more}
 use Rattle.laws.specs.Sums.{sum}
-use Rattle.laws.specs.Stored.{storedFrom, stored}
-use Rattle.laws.proofs.StoredLaws.{stored-length}
 use Rattle.laws.proofs.SumLaws.{sum-none, sum-more, sum-ext}
 use Rattle.book.specs.Words.{upTo, checkOf}
 use Rattle.book.specs.Private.{CheckPast}
@@ -22,7 +20,7 @@ use Rattle.book.specs.Private.{CheckPast}
 pub upTo-length : (f : ℕ → ℕ) (n : ℕ) → length (upTo f n) ≡ n
 unfolding upTo
 upTo-length f zero = refl
-upTo-length f (suc n) = length-append (upTo f n) (f n ∷ []) ∙ ap (λ (k : ℕ). k + 1) (upTo-length f n) ∙ add-one n
+upTo-length f (suc n) = rw (length-append, upTo-length f n, add-one)
 
 pub upTo-at : (f : ℕ → ℕ) (n i : ℕ) → i < n → getD (upTo f n) i 0 ≡ f i
 unfolding upTo
@@ -30,9 +28,7 @@ upTo-at f zero i h = absurd (not-suc-le-zero h)
 upTo-at f (suc n) i h =
     below-more (λ (j : ℕ). getD (upTo f n ++ (f n ∷ [])) j 0 ≡ f j) n
     (λ j l. List·getD-append (upTo f n) (f n ∷ []) 0 j (omega (arith, upTo-length f n)) ∙ upTo-at f n j l)
-    (getD-at (upTo f n) (f n) [] 0 n (upTo-length f n))
-    i
-    (omega arith)
+    (getD-at (upTo f n) (f n) [] 0 n (upTo-length f n)) i (omega arith)
 
 -- a list with these values is the run
 pub upTo-is : (f : ℕ → ℕ) (n : ℕ) (l : List ℕ) → length l ≡ n → ((i : ℕ) → i < n → getD l i 0 ≡ f i) → l ≡ upTo f n
@@ -51,47 +47,13 @@ unfolding upTo
 over-none f lent = record { written = refl; as-long = refl }
 
 -- a store at its end makes it one longer
-over-set : (f : ℕ → ℕ) (l : List ℕ) (n x : ℕ) → n < length l → x ≡ f n
-    → set (upTo f n ++ drop n l) n x ≡ upTo f (suc n) ++ drop (suc n) l
+pub over-one : {f : ℕ → ℕ} {lent room : List ℕ} (n m x : ℕ) → Over f lent room n → n < length lent → x ≡ f n → m ≡ n + 1
+    → Over f lent (set room n x) m
 unfolding upTo
-over-set f l n x h value =
-    (λ k. set (upTo f n ++ drop-cons l n 0 h k) n (value k))
-    ∙ set-at (upTo f n) (getD l n 0) (drop (suc n) l) (f n) n (upTo-length f n)
-    ∙ sym (append-snoc (upTo f n) (f n) (drop (suc n) l))
-
-pub over-one : (f : ℕ → ℕ) (lent room : List ℕ) (n x : ℕ) → Over f lent room n → n < length lent → x ≡ f n
-    → Over f lent (set room n x) (n + 1)
-over-one f lent room n x o h value =
+over-one {f} {lent} {room} n m x o h value next =
     record {
-      written =
-          ap (λ (r : List ℕ). set r n x) (o .written)
-          ∙ over-set f lent n x h value
-          ∙ ap (λ (k : ℕ). upTo f k ++ drop k lent) (sym (add-one n));
+      written = rw (next, add-one, o .written, drop-cons lent n 0, set-at _ _ _ _ n (upTo-length f n), value, append-snoc);
       as-long = length-set room n x ∙ o .as-long;
-    }
-
-over-stored : (f : ℕ → ℕ) (l : List ℕ) (at d n : ℕ) (ws : List ℕ) → n ≡ at + d → n + length ws ≤ length l
-    → ((e : ℕ) → e < length ws → getD ws e 0 ≡ f (n + e))
-    → storedFrom (upTo f n ++ drop n l) at d ws ≡ upTo f (n + length ws) ++ drop (n + length ws) l
-unfolding storedFrom
-over-stored f l at d n [] e room same = ap (λ (k : ℕ). upTo f k ++ drop k l) (sym (add-zero n))
-over-stored f l at d n (w ∷ ws) e room same =
-    let first : w ≡ f n = same 0 (omega arith) ∙ ap f (add-zero n) in
-    let all : suc n + length ws ≡ n + suc (length ws) = omega arith in
-    ap (λ (k : ℕ). storedFrom (set (upTo f n ++ drop n l) k w) at (suc d) ws) (sym e)
-    ∙ ap (λ (r : List ℕ). storedFrom r at (suc d) ws) (over-set f l n w (omega arith) first)
-    ∙ over-stored f l at (suc d) (suc n) ws (omega arith) (omega arith)
-    (λ i h. let next : n + suc i ≡ suc n + i = omega arith in same (suc i) (omega arith) ∙ ap f next)
-    ∙ ap (λ (k : ℕ). upTo f k ++ drop k l) all
-
-pub over-more : (f : ℕ → ℕ) (lent room : List ℕ) (n : ℕ) (ws : List ℕ) → Over f lent room n
-    → n + length ws ≤ length lent → ((e : ℕ) → e < length ws → getD ws e 0 ≡ f (n + e))
-    → Over f lent (stored room n ws) (n + length ws)
-over-more f lent room n ws o fits same =
-    record {
-      written =
-          ap (λ (r : List ℕ). stored r n ws) (o .written) ∙ over-stored f lent n 0 n ws (sym (add-zero n)) fits same;
-      as-long = stored-length room n ws ∙ o .as-long;
     }
 
 -- ---- the sum of which a check is made
@@ -111,12 +73,8 @@ pub sum-past-word : (f : ℕ → ℕ → ℕ) (p s x r : ℕ) → s ≡ (sum (f 
     → r ≡ (sum (f ((p + 1) / 128)) ((p + 1) % 128) + 1) % 2 ^ 32
 sum-past-word f p s x r before here past =
     dite (ℕ-discrete (p % 128) 127)
-    (λ last.
-    let first : (p + 1) % 128 ≡ 0 = omega arith in
-    past .last last ∙ sym (simp (first, sum-none)))
+    (λ last. let first : (p + 1) % 128 ≡ 0 = omega arith in past .last last ∙ sym (simp (first, sum-none)))
     (λ other.
-    let same : p / 128 ≡ (p + 1) / 128 = omega arith in
-    let next : p % 128 + 1 ≡ (p + 1) % 128 = omega arith in
-    past .other other
-    ∙ sum-kept (f (p / 128)) (p % 128) s x before (here (omega arith))
-    ∙ (λ i. (sum (f (same i)) (next i) + 1) % 2 ^ 32))
+    let block : (p + 1) / 128 ≡ p / 128 = omega arith in
+    let word : (p + 1) % 128 ≡ p % 128 + 1 = omega arith in
+    rw (block, word) (past .other other ∙ sum-kept (f (p / 128)) (p % 128) s x before (here (omega arith))))

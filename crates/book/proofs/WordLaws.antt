@@ -1,26 +1,26 @@
 -- Laws of words in bytes: how bytes become words and words bytes, each over the position.
 -- Assumes nothing.
-use mathlib.Core.Path.{_≡_, sym, ap, _∙_, subst}
+use mathlib.Core.Path.{_≡_, sym, ap, _∙_}
 use mathlib.Core.List.{List, _++_}
 use mathlib.Core.Logic.{dite}
 use Prim.Native.Nat.{ℕ, zero, suc, _+_, _*_, _/_, _%_, _^_, _≤_, _<_}
-use native.Mathlib.Nat.{div-div-eq-div-mul, mod-lt}
+use native.Mathlib.Nat.{add-zero, div-div-eq-div-mul, mod-lt}
 use borrow.Author.Tests.{le-leb, lt-leb}
 use native.Mathlib.Decide.{decLt}
 use native.Mathlib.Omega.{arith}
 use lib.Dec.{lit<, lit≤}
-use lib.ListN.{length, getD, take, drop, List·getD-eq-default, List·getD-append}
+use lib.ListN.{length, getD, take, drop, set, List·getD-eq-default, List·getD-append}
 use lib.Seq.{getD-take, getD-drop}
+use Rattle.laws.specs.Stored.{storedFrom}
 use Rattle.book.specs.Words.{AllBelow, upTo, wordOf, byteAt, wordAt, byteOf, byteIn}
 use Rattle.book.specs.Words.{bytesOf, bytesOver, bytesAfter}
 use Rattle.book.specs.Private.{withWord}
-use Rattle.book.proofs.UpToLaws.{upTo-length, upTo-at, upTo-is, Over, over-more}
+use Rattle.book.proofs.UpToLaws.{upTo-length, upTo-at, upTo-is, Over, over-one}
 
 -- past its end a list has zeros
 pub all-below : (n : ℕ) (l : List ℕ) → 0 < n → ((i : ℕ) → i < length l → getD l i 0 < n) → AllBelow n l
 all-below n l some each i =
-    dite (decLt i (length l)) (each i)
-    (λ past. subst (λ (x : ℕ). x < n) (sym (List·getD-eq-default l 0 {n = i} (omega arith))) some)
+    dite (decLt i (length l)) (each i) (λ past. rw (List·getD-eq-default l 0 {n = i} (omega arith)) some)
 
 -- byte i of word p
 byte-at : (f : ℕ → ℕ) (p i : ℕ) → i < 4 → byteOf (f p) i ≡ byteIn f (4 * p + i)
@@ -36,17 +36,16 @@ byte-at f p i h =
 abbrev pub Put : (f : ℕ → ℕ) (lent room : List ℕ) → ℕ → Type 0
 Put f lent room p = Over (byteIn f) lent room (4 * p)
 
-pub put-more : (f : ℕ → ℕ) (lent room next : List ℕ) (p x : ℕ) → Put f lent room p → 4 * p + 4 ≤ length lent
+pub put-more : (f : ℕ → ℕ) {lent room next : List ℕ} (p x : ℕ) → Put f lent room p → 4 * p + 4 ≤ length lent
     → x ≡ f p → next ≡ withWord room p x → Put f lent next (p + 1)
-put-more f lent room next p x put fits value e =
-    let four : length (upTo (byteOf x) 4) ≡ 4 = upTo-length (byteOf x) 4 in
-    let end : 4 * p + length (upTo (byteOf x) 4) ≡ 4 * (p + 1) = omega arith in
-    subst (λ (r : List ℕ). Put f lent r (p + 1)) (sym e)
-    (subst (Over (byteIn f) lent (withWord room p x)) end
-    (over-more (byteIn f) lent room (4 * p) (upTo (byteOf x) 4) put (omega arith)
-    (λ i h.
-    let l : i < 4 = omega arith in
-    upTo-at (byteOf x) 4 i l ∙ ap (λ (y : ℕ). byteOf y i) value ∙ byte-at f p i l)))
+unfolding storedFrom upTo
+put-more f {lent} p x put fits value e =
+    let end : 4 * (p + 1) ≡ 4 * p + 4 = omega arith in
+    rw (e, end) (byte 3 (lit< tt) (byte 2 (lit< tt) (byte 1 (lit< tt) (byte 0 (lit< tt) (rw (← add-zero (4 * p)) at put)))))
+  where
+    byte : {room : List ℕ} (i : ℕ) → i < 4 → Over (byteIn f) lent room (4 * p + i)
+        → Over (byteIn f) lent (set room (4 * p + i) (byteOf x i)) (4 * p + (i + 1))
+    byte i h o = over-one (4 * p + i) _ _ o (omega arith) (rw value (byte-at f p i h)) (omega arith)
 
 pub put-all : (f : ℕ → ℕ) (lent room : List ℕ) (p n : ℕ) → Put f lent room p → p ≡ n → room ≡ bytesOver f n lent
 unfolding bytesOf
@@ -84,9 +83,8 @@ digits x a b c r₀ r₁ r₂ r₃ e₀ e₁ e₂ e₃ = omega arith
 four-bytes : (x : ℕ) → x < 2 ^ 32 → wordOf (byteOf x) ≡ x
 unfolding byteOf
 four-bytes x h =
-    let second : x / 256 / 256 ≡ x / 65536 = div-div-eq-div-mul x 256 256 in
-    let third : x / 65536 / 256 ≡ x / 16777216 = div-div-eq-div-mul x 65536 256 in
-    digits x (x / 256) (x / 65536) (x / 16777216) _ _ _ _ (omega arith) (omega arith) (omega arith) (omega arith)
+    digits x (x / 256) (x / 65536) (x / 16777216) _ _ _ _ (omega arith) (omega (arith, div-div-eq-div-mul x 256 256))
+    (omega (arith, div-div-eq-div-mul x 65536 256)) (omega arith)
 
 -- reading gives back the words of which the bytes were made
 pub word-of-bytes : (f : ℕ → ℕ) (n p : ℕ) → p < n → f p < 2 ^ 32 → wordAt (bytesOf f n) p ≡ f p
@@ -96,13 +94,16 @@ word-of-bytes f n p h fits =
     (λ i l. upTo-at (byteIn f) (4 * n) (4 * p + i) (omega arith) ∙ sym (byte-at f p i l))
     ∙ four-bytes (f p) fits
 
--- a byte of a word that was read is the byte that stood there
-pub byte-of-word : (b : List ℕ) (p : ℕ) → ((i : ℕ) → i < 4 → byteAt b p i < 256) → (i : ℕ) → i < 4 → byteOf (wordAt b p) i ≡ byteAt b p i
+-- byte j of bytes is that of the word that is read around it
+byte-of-word : (b : List ℕ) (j : ℕ) → ((i : ℕ) → i < 4 → byteAt b (j / 4) i < 256)
+    → byteOf (wordAt b (j / 4)) (j % 4) ≡ getD b j 0
 unfolding byteOf wordAt
-byte-of-word b p h i l = at i l (h 0 (omega arith)) (h 1 (omega arith)) (h 2 (omega arith)) (h 3 (omega arith))
+byte-of-word b j h =
+    let place : 4 * (j / 4) + j % 4 ≡ j = omega arith in
+    rw place at (at (j % 4) (omega arith) (h 0 (lit< tt)) (h 1 (lit< tt)) (h 2 (lit< tt)) (h 3 (lit< tt)))
   where
-    at : (i : ℕ) → i < 4 → byteAt b p 0 < 256 → byteAt b p 1 < 256 → byteAt b p 2 < 256 → byteAt b p 3 < 256
-        → wordOf (byteAt b p) / 256 ^ i % 256 ≡ byteAt b p i
+    at : (i : ℕ) → i < 4 → byteAt b (j / 4) 0 < 256 → byteAt b (j / 4) 1 < 256 → byteAt b (j / 4) 2 < 256
+        → byteAt b (j / 4) 3 < 256 → wordOf (byteAt b (j / 4)) / 256 ^ i % 256 ≡ byteAt b (j / 4) i
     at zero l c d e f = omega arith
     at (suc zero) l c d e f = omega arith
     at (suc (suc zero)) l c d e f = omega arith
@@ -119,12 +120,7 @@ pub bytes-of-words : (b : List ℕ) → AllBelow 256 b → (f : ℕ → ℕ) (n 
 unfolding byteIn bytesOf
 bytes-of-words b h f n e same =
     upTo-is (byteIn f) (4 * n) b e
-    (λ j l.
-    let place : 4 * (j / 4) + j % 4 ≡ j = omega arith in
-    let here = same (j / 4) (omega arith) in
-    ap (λ (n : ℕ). getD b n 0) (sym place)
-    ∙ sym (byte-of-word b (j / 4) (λ i k. h (4 * (j / 4) + i)) (j % 4) (omega arith))
-    ∙ ap (λ (x : ℕ). byteOf x (j % 4)) here)
+    (λ j l. sym (byte-of-word b j (λ i k. h (4 * (j / 4) + i))) ∙ ap (λ (x : ℕ). byteOf x (j % 4)) (same (j / 4) (omega arith)))
 
 -- a word of a part that starts at word q
 pub word-of-part : (b : List ℕ) (at n q j : ℕ) → at ≡ 4 * q → 4 * j + 4 ≤ n
@@ -133,9 +129,7 @@ word-of-part b at n q j e h =
     words-same (take n (drop at b)) b j (q + j)
     (λ i l.
     let place : at + (4 * j + i) ≡ 4 * (q + j) + i = omega arith in
-    getD-take n (drop at b) (4 * j + i) 0 (omega arith)
-    ∙ getD-drop at b (4 * j + i) 0
-    ∙ ap (λ (z : ℕ). getD b z 0) place)
+    rw (← place) (getD-take n (drop at b) (4 * j + i) 0 (omega arith) ∙ getD-drop at b (4 * j + i) 0))
 
 -- a word, and a byte, in front of other bytes
 pub word-in-front : (f : ℕ → ℕ) (n : ℕ) (rest : List ℕ) (p : ℕ) → p < n → wordAt (bytesOf f n ++ rest) p ≡ wordAt (bytesOf f n) p
@@ -146,18 +140,13 @@ word-in-front f n rest p h =
 pub byte-in-front : (f : ℕ → ℕ) (n : ℕ) (rest : List ℕ) (j : ℕ) → j < 4 * n → getD (bytesOf f n ++ rest) j 0 < 256
 unfolding bytesOf byteIn byteOf
 byte-in-front f n rest j h =
-    subst (λ (x : ℕ). x < 256)
-    (sym (List·getD-append (bytesOf f n) rest 0 j (omega (arith, bytes-length f n)) ∙ upTo-at (byteIn f) (4 * n) j h))
+    rw (List·getD-append (bytesOf f n) rest 0 j (omega (arith, bytes-length f n)), upTo-at (byteIn f) (4 * n) j h)
     (mod-lt (f (j / 4) / 256 ^ (j % 4)) (lit≤ tt))
 
 -- bytes are the same where their words are
 pub same-bytes : (a b : List ℕ) (m : ℕ) → ((j : ℕ) → j < 4 * m → getD a j 0 < 256) → ((j : ℕ) → j < 4 * m → getD b j 0 < 256)
     → ((p : ℕ) → p < m → wordAt a p ≡ wordAt b p) → (j : ℕ) → j < 4 * m → getD a j 0 ≡ getD b j 0
 same-bytes a b m h k words j l =
-    let p = j / 4 in
-    let i = j % 4 in
-    let at : 4 * p + i ≡ j = omega arith in
-    subst (λ (n : ℕ). getD a n 0 ≡ getD b n 0) at
-    (sym (byte-of-word a p (λ i d. h (4 * p + i) (omega arith)) i (omega arith))
-    ∙ ap (λ (w : ℕ). byteOf w i) (words p (omega arith))
-    ∙ byte-of-word b p (λ i d. k (4 * p + i) (omega arith)) i (omega arith))
+    sym (byte-of-word a j (λ i d. h (4 * (j / 4) + i) (omega arith)))
+    ∙ ap (λ (w : ℕ). byteOf w (j % 4)) (words (j / 4) (omega arith))
+    ∙ byte-of-word b j (λ i d. k (4 * (j / 4) + i) (omega arith))

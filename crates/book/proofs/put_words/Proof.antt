@@ -32,7 +32,7 @@ loop-again : tie.Need-loop-again Inv-loop μ-loop
 loop-again c =
     let head = c .before .before .before .before .before .before .loop in
     let put = c .before .before .put-word in
-    (omega arith, put-more _ _ (head .room) _ (head .p) _ (head .inv .1) (omega arith) refl (put .ensures))
+    (omega arith, put-more _ (head .p) _ (head .inv .1) (omega arith) refl (put .ensures))
 
 same-length : tie.Need-same-length Inv-loop μ-loop
 same-length c = c .before .loop .inv .1 .as-long

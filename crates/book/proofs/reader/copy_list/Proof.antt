@@ -1,7 +1,7 @@
 -- `book::reader::copy_list` meets its contract. The loop's invariant: the first i words are the book's, and what lies
 -- behind is as it was.
 -- Assumes nothing.
-use mathlib.Core.Path.{_≡_, ap, _∙_}
+use mathlib.Core.Path.{_≡_, refl, ap, _∙_}
 use mathlib.Core.List.{_++_}
 use Prim.Native.Nat.{ℕ, _-_, _≤_}
 use native.Mathlib.Omega.{arith}
@@ -26,7 +26,7 @@ loop-again : tie.Need-loop-again Inv-loop μ-loop
 unfolding listWord
 loop-again c =
     let head = c .before .before .loop in
-    (omega arith, over-one _ _ (head .list) (head .i) _ (head .inv .1) (omega arith) (c .in-block .ensures))
+    (omega arith, over-one (head .i) _ _ (head .inv .1) (omega arith) (c .in-block .ensures) refl)
 
 returns : tie.Need-returns Inv-loop μ-loop
 returns c =

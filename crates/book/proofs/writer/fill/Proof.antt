@@ -38,7 +38,7 @@ loop-again c =
     let word = bookWord (start .s) (start .list .now) in
     let body = bodyWord (start .s) (start .list .now) in (
       omega arith,
-      put-more word _ (head .room) _ (head .p) _ (head .inv .1) (omega arith) (made .ensures) (put .ensures),
+      put-more word (head .p) _ (head .inv .1) (omega arith) (made .ensures) (put .ensures),
       sum-past-word body (head .p) (head .check) (made .result) _ (head .inv .2)
           (λ low. made .ensures ∙ block-body (start .s) (start .list .now) (head .p / 128) (head .p % 128) low)
           (c .check-past .ensures),

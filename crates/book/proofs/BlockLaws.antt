@@ -10,8 +10,7 @@ use lib.ListN.{length, getD, drop, length-take, length-drop, List·getD-eq-defau
 use lib.Seq.{getD-take, getD-drop}
 use borrow.Author.Tests.{ne-eqb}
 use Rattle.laws.specs.Lowest.{EachTo, LowestWithout}
-use Rattle.laws.specs.Loops.{LowestOrNone}
-use Rattle.laws.proofs.LowestLaws.{some-lowest, lowest-not-each}
+use Rattle.laws.proofs.LowestLaws.{lowest-not-each}
 use Rattle.terms.specs.declared.Settings.{Settings}
 use Rattle.terms.specs.Ranges.{settingWord}
 use Rattle.terms.specs.Lists.{signalSize, count, CountInRange}
@@ -29,17 +28,12 @@ module _ (m : ℕ) (P : ℕ → Type 0) where
   pub numbered-each : EachTo m (λ i. P (i - 1)) → (k : ℕ) → k < m → P k
   numbered-each each k h = let same : k + 1 - 1 ≡ k = omega arith in subst P same (each (k + 1) (omega arith))
 
-pub lowest-numbered : (m : ℕ) (P : ℕ → Type 0) (i : ℕ) → LowestWithout m P i → LowestWithout m P (i - 1 + 1)
-lowest-numbered m P i lowest =
-    let same : i ≡ i - 1 + 1 = omega (arith, lowest .within) in
-    subst (LowestWithout m P) same lowest
-
--- what a search for the i-th tells where it has found one
-pub found : (m : ℕ) (P : ℕ → Type 0) (i : ℕ) → LowestOrNone m P i → (i ≡ 0 → ⊥)
+-- what the lowest such, the i-th, tells
+pub lowest-numbered : (m : ℕ) (P : ℕ → Type 0) (i : ℕ) → LowestWithout m P i
     → (EachTo m P → ⊥) × LowestWithout m P (i - 1 + 1)
-found m P i r n =
-    let lowest = some-lowest m P i r n in
-    (lowest-not-each m P i lowest, lowest-numbered m P i lowest)
+lowest-numbered m P i lowest =
+    let same : i - 1 + 1 ≡ i = omega (arith, lowest .within) in
+    (lowest-not-each m P i lowest, rw same lowest)
 
 -- ---- what stands in a block
 

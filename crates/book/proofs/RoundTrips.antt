@@ -1,7 +1,7 @@
 -- Reading what was written gives the same values; writing what was read gives the same bytes; two different sound books
 -- never read alike. For all settings and lists of words below 2 ^ 32 and all books of bytes below 256.
 -- Assumes nothing.
-use mathlib.Core.Path.{_≡_, sym, ap, ap₂, _∙_, subst}
+use mathlib.Core.Path.{_≡_, sym, ap, _∙_}
 use mathlib.Core.List.{List, [], _++_}
 use Prim.Native.Nat.{ℕ, _*_, _^_, _≤_}
 use native.Mathlib.Omega.{arith}
@@ -15,7 +15,7 @@ use Rattle.terms.specs.Answers.{numberOf, placeOf}
 use Rattle.book.specs.declared.Reading.{Reading}
 use Rattle.book.specs.Words.{AllBelow}
 use Rattle.book.specs.Blocks.{AreWords, blocksFor, bookOf, writingRows}
-use Rattle.book.specs.Reading.{blocksIn, signalsOf, settingsIn, listIn}
+use Rattle.book.specs.Reading.{blocksIn, signalsOf, listIn}
 use Rattle.book.specs.Outcomes.{ReadOutcome, WriteOutcome}
 use Rattle.book.proofs.SoundLaws.{sound-length, sound-count}
 use Rattle.book.proofs.WrittenLaws.{written-count, written-sound, written-back, written-list}
@@ -31,7 +31,7 @@ pub write-then-read : {s : Settings} {l room exit lent back : List ℕ} {a : Ans
     × (back ≡ l ++ drop (length l) lent)
 write-then-read {s} {l} {lent = lent} {back} {r = r} settings words write z enough outcome =
     let w = write-gives write z in
-    let read = subst (λ (b : List ℕ). ReadOutcome b lent r back) (w .book) outcome in
+    let read = rw (w .book) at outcome in
     let m = written-count s l settings words (w .in-range) in
     let all : signalSize * signalsOf (bookOf s l) ≡ length l = omega (arith, w .in-range .whole) in
     let (done, place) = sound-read read (written-sound s l settings words (w .in-range)) (omega arith) in
@@ -49,11 +49,7 @@ pub read-then-write : {b lent back room exit : List ℕ} {r : Reading} {a : Answ
     → (numberOf a ≡ 0) × (placeOf a ≡ blocksIn b) × (exit ≡ b ++ drop (length b) room)
 read-then-write {b} {back = back} {room} {exit} {r} {a} bytes read z enough outcome =
     let g = read-gives read z in
-    let given = take (signalSize * placeOf (r .answer)) back in
-    let words = ap (λ (m : ℕ). take (signalSize * m) back) (g .signals) ∙ g .words in
-    let write : WriteOutcome (settingsIn b) (listIn b) room a exit =
-    subst (λ (l : List ℕ). WriteOutcome (settingsIn b) l room a exit) words
-    (subst (λ (s : Settings). WriteOutcome s given room a exit) (g .settings) outcome) in
+    let write = rw (g .settings, g .signals, g .words) at outcome in
     let right = list-in-range b (g .sound) in
     let blocks : blocksFor (count (listIn b)) ≡ blocksIn b =
     ap blocksFor (list-count b) ∙ sym (sound-count b (g .sound) .1) in
@@ -68,11 +64,7 @@ pub alike-same : {b b′ lent back : List ℕ} {r : Reading} → AllBelow 256 b 
 alike-same {b} {b′} {back = back} bytes bytes′ read read′ z =
     let g = read-gives read z in
     let h = read-gives read′ z in
-    let same : signalsOf b ≡ signalsOf b′ = sym (g .signals) ∙ h .signals in
-    let words = sym (g .words) ∙ ap (λ (m : ℕ). take (signalSize * m) back) same ∙ h .words in
-    sym (sound-written b (g .sound) bytes)
-    ∙ ap₂ bookOf (sym (g .settings) ∙ h .settings) words
-    ∙ sound-written b′ (h .sound) bytes′
+    cc (sound-written b (g .sound) bytes, sound-written b′ (h .sound) bytes′)
 
 -- a reader that refuses all books is excluded: that of an empty list is accepted, with no room at all
 pub not-all-refused : {s : Settings} {back : List ℕ} {r : Reading} → AreWords s → ReadOutcome (bookOf s []) [] r back

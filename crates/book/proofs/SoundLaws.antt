@@ -11,7 +11,7 @@ use lib.Dec.{lit≤}
 use lib.ListN.{length}
 use Rattle.laws.specs.Rows.{Hold}
 use Rattle.laws.proofs.RowLaws.{numbered-join, single-join, Numbered, Single, zero-holds, not-zero-fails}
-use Rattle.laws.proofs.LowestLaws.{lowest-one, lowest-not-each}
+use Rattle.laws.proofs.LowestLaws.{lowest-one}
 use Rattle.laws.proofs.DecidedLaws.{Decided, first-row, decided-hold, lowest-or-each}
 use Rattle.terms.specs.declared.Answer.{Answer}
 use Rattle.terms.specs.declared.Answer.the-variants.{Length, Check, Kind, Count, Zero}
@@ -76,12 +76,11 @@ module _ (b : List ℕ) (a : Answer) (f : Answers (bookRows b) (λ p. p ≡ sign
 
 -- ---- every book has an answer
 
-abbrev Tried : List ℕ → (ℕ → Type 0) → Type 0
-Tried b P = EachBlock b P ⊎ ((p : ℕ) × FirstBlock b P p)
-
-tried : (b : List ℕ) (P : ℕ → Type 0) → ((k : ℕ) → Dec (P k)) → Tried b P
-tried b P decided =
-    ⊎-elim inl (λ f. inr (f .0 - 1, lowest-numbered _ _ (f .0) (f .1)))
+-- each block has the fact, beside what more is decided then; or there is a first without it
+tried : (b : List ℕ) (P : ℕ → Type 0) {More : Type 0} → ((k : ℕ) → Dec (P k)) → More
+    → (EachBlock b P × More) ⊎ ((EachBlock b P → ⊥) × ((p : ℕ) × FirstBlock b P p))
+tried b P decided more =
+    ⊎-elim (λ e. inl (e, more)) (λ (i, l). let first = lowest-numbered _ _ i l in inr (first .0, (i - 1, first .1)))
     (lowest-or-each (blocksIn b) (λ i. P (i - 1)) (λ i h. decided (i - 1)))
 
 module _ (b : List ℕ) where
@@ -98,29 +97,25 @@ module _ (b : List ℕ) where
   zeros-or-not k =
       ⊎-elim (λ each. yes (λ w used h. numbered-each 127 Right each w h used))
       (λ f. no (λ zeros. f .1 .fails (λ used. zeros (f .0 - 1) used (omega (arith, f .1 .within)))))
-      (lowest-or-each 127 (λ i. Right (i - 1)) (λ i h. word (i - 1)))
+      (lowest-or-each 127 (λ i. Right (i - 1)) (λ i h.
+      dite (decLe (usedIn (signalsOf b) k) (i - 1))
+      (λ used. map-dec (λ z u. z) (λ right. right used) (ℕ-discrete (inBlock b k (i - 1)) 0))
+      (λ n. yes (λ used. absurd (n used)))))
     where
       Right : ℕ → Type 0
       Right w = usedIn (signalsOf b) k ≤ w → inBlock b k w ≡ 0
 
-      word : (w : ℕ) → Dec (Right w)
-      word w =
-          dite (decLe (usedIn (signalsOf b) k) w) (λ used. map-dec (λ z u. z) (λ right. right used) (ℕ-discrete (inBlock b k w) 0))
-          (λ n. yes (λ used. absurd (n used)))
-
   pub book-decided : Decided (bookRows b)
   book-decided =
-      judged length-or-not (tried b (CheckRight b) (λ k. ℕ-discrete _ _)) (tried b (KindRight b) (λ k. Dec·and (ℕ-discrete _ _) (ℕ-discrete _ _)))
-      (tried b (CountRight b) share-or-not) (tried b (ZerosRight b) zeros-or-not)
-    where
-      judged : Dec (LengthRight b) → Tried b (CheckRight b) → Tried b (KindRight b) → Tried b (CountRight b) → Tried b (ZerosRight b)
-          → Decided (bookRows b)
-      judged (no l) c k n z = inr (l, (0, refl))
-      judged (yes l) (inr (p, f)) k n z = inl (l, inr (lowest-not-each _ _ _ f, (p, f)))
-      judged (yes l) (inl c) (inr (p, f)) n z = inl (l, inl (c, inr (lowest-not-each _ _ _ f, (p, f))))
-      judged (yes l) (inl c) (inl k) (inr (p, f)) z = inl (l, inl (c, inl (k, inr (lowest-not-each _ _ _ f, (0, refl)))))
-      judged (yes l) (inl c) (inl k) (inl n) (inr (p, f)) = inl (l, inl (c, inl (k, inl (n, inr (lowest-not-each _ _ _ f, (p, f))))))
-      judged (yes l) (inl c) (inl k) (inl n) (inl z) = inl (l, inl (c, inl (k, inl (n, inl (z, tt)))))
+      dite length-or-not
+      (λ l. inl (
+        l,
+        tried b (CheckRight b) (λ k. ℕ-discrete _ _)
+            (tried b (KindRight b) (λ k. Dec·and (ℕ-discrete _ _) (ℕ-discrete _ _))
+            (⊎-elim inl (λ f. inr (f .0, (0, refl)))
+            (tried b (CountRight b) share-or-not (tried b (ZerosRight b) zeros-or-not tt)))),
+      ))
+      (λ n. inr (n, (0, refl)))
 
   pub book-answerable : Answerable (bookRows b)
   book-answerable = (

@@ -2,10 +2,10 @@
 -- Assumes nothing.
 use mathlib.Core.Path.{_≡_, refl, ap, _∙_}
 use mathlib.Core.List.{List, _++_}
-use mathlib.Core.Logic.{inl, inr, dite, Dec·and}
-use Prim.Native.Nat.{ℕ, _*_, _%_, _≤_, _<_}
+use mathlib.Core.Logic.{inl, inr, dite}
+use Prim.Native.Nat.{ℕ, _*_, _≤_, _<_}
 use native.Mathlib.Nat.{lt-of-not-le}
-use native.Mathlib.Decide.{ℕ-discrete, decLe}
+use native.Mathlib.Decide.{decLe}
 use native.Mathlib.Omega.{arith}
 use lib.Dec.{lit≤}
 use lib.ListN.{length, take, drop}
@@ -14,8 +14,9 @@ use Rattle.laws.proofs.RowLaws.{zero-holds}
 use Rattle.terms.specs.declared.Settings.{Settings}
 use Rattle.terms.specs.declared.Answer.{Answer}
 use Rattle.terms.specs.declared.Answer.the-variants.{Done, Count, Room}
-use Rattle.terms.specs.Lists.{signalSize, count, CountInRange}
+use Rattle.terms.specs.Lists.{count, CountInRange}
 use Rattle.terms.specs.Answers.{numberOf, placeOf}
+use Rattle.terms.proofs.RangesDecided.{count-or-not}
 use Rattle.book.specs.Blocks.{blocksFor, bookOf, writingRows}
 use Rattle.book.specs.Outcomes.{WriteOutcome}
 use Rattle.book.proofs.WrittenLaws.{written-length}
@@ -42,15 +43,12 @@ module _ (s : Settings) (l lent : List ℕ) where
 
 pub write-exists : (s : Settings) (l lent : List ℕ) → (a : Answer) × (exit : List ℕ) × WriteOutcome s l lent a exit
 write-exists s l lent =
-    dite (Dec·and (ℕ-discrete (length l % signalSize) 0) (decLe (count l) 600))
-    (λ h.
-    let right : CountInRange l = record { whole = h .0; few = h .1 } in
+    dite (count-or-not l)
+    (λ right.
     dite (decLe (512 * blocksFor (count l)) (length lent))
-    (λ enough.
-    let exit = bookOf s l ++ drop (512 * blocksFor (count l)) lent in
-    (Done (blocksFor (count l)), exit, write-done s l lent right _ refl enough refl))
-    (λ short. (Room (512 * blocksFor (count l)), lent, write-short s l lent right _ refl (lt-of-not-le short))))
-    (λ n. (Count, lent, write-refused s l lent (λ right. n (right .whole, right .few))))
+    (λ enough. (Done _, _, write-done s l lent right _ refl enough refl))
+    (λ short. (Room _, lent, write-short s l lent right _ refl (lt-of-not-le short))))
+    (λ n. (Count, lent, write-refused s l lent n))
 
 -- ---- what a caller learns
 

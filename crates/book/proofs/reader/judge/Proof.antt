@@ -7,9 +7,9 @@ use Prim.Native.Nat.{ℕ}
 use native.Mathlib.Omega.{arith}
 use borrow.Author.Needs.{needs}
 use Rattle.laws.proofs.SaysLaws.{granted, refused}
-use Rattle.laws.proofs.LowestLaws.{none-each}
+use Rattle.laws.proofs.LowestLaws.{none-each, some-lowest}
 use Rattle.book.specs.Reading.{LengthRight, CheckRight, KindRight, CountRight, EachBlock}
-use Rattle.book.proofs.BlockLaws.{found}
+use Rattle.book.proofs.BlockLaws.{lowest-numbered}
 use Rattle.book.proofs.reader.judge.Statement.{statement}
 use Rattle.book.proofs.reader.judge.Tie as tie
 
@@ -40,7 +40,7 @@ first-wrong-requires c κs = whole c
 
 returns-2 : tie.Need-returns-2
 returns-2 c =
-    let wrong = found _ _ _ (c .before .first-wrong .ensures) (c .if2 .taken) in
+    let wrong = lowest-numbered _ _ _ (some-lowest _ _ _ (c .before .first-wrong .ensures) (c .if2 .taken)) in
     inr (whole (c .before .before), inl (wrong .0, refl, wrong .1))
 
 first-wrong-requires-2 : tie.Need-first-wrong-requires-2
@@ -48,7 +48,7 @@ first-wrong-requires-2 c κs = whole (c .before .before)
 
 returns-3 : tie.Need-returns-3
 returns-3 c =
-    let wrong = found _ _ _ (c .before .first-wrong2 .ensures) (c .if3 .taken) in
+    let wrong = lowest-numbered _ _ _ (some-lowest _ _ _ (c .before .first-wrong2 .ensures) (c .if3 .taken)) in
     let past2 = c .before .before in
     inr (whole (past2 .before .before), inr (checks past2, inl (wrong .0, refl, wrong .1)))
 
@@ -57,7 +57,7 @@ first-wrong-requires-3 c κs = whole (c .before .before .before .before)
 
 returns-4 : tie.Need-returns-4
 returns-4 c =
-    let wrong = found _ _ _ (c .before .first-wrong3 .ensures) (c .if4 .taken) in
+    let wrong = lowest-numbered _ _ _ (some-lowest _ _ _ (c .before .first-wrong3 .ensures) (c .if4 .taken)) in
     let past3 = c .before .before in
     let past2 = past3 .before .before in
     inr (whole (past2 .before .before), inr (checks past2, inr (kinds past3, inl (wrong .0, refl, refl))))
@@ -67,7 +67,7 @@ first-wrong-requires-4 c κs = whole (c .before .before .before .before .before 
 
 returns-5 : tie.Need-returns-5
 returns-5 c =
-    let wrong = found _ _ _ (c .before .first-wrong4 .ensures) (c .if5 .taken) in
+    let wrong = lowest-numbered _ _ _ (some-lowest _ _ _ (c .before .first-wrong4 .ensures) (c .if5 .taken)) in
     let past4 = c .before .before in
     let past3 = past4 .before .before in
     let past2 = past3 .before .before in

@@ -32,7 +32,7 @@ signals b p = p ≡ signalsOf b
 
 -- ---- each way out
 
-module _ (b lent : List ℕ) (r : Reading) where
+module _ {b lent : List ℕ} {r : Reading} where
   pub read-refused : Answers (bookRows b) (signals b) (r .answer) → (numberOf (r .answer) ≡ 0 → ⊥)
       → r .settings ≡ fiveZeros → ReadOutcome b lent r lent
   read-refused f n zeros =
@@ -70,15 +70,11 @@ read-exists b lent =
     (λ z.
     let (sound, place) = judged-sound b a f z in
     dite (decLe (signalSize * signalsOf b) (length lent))
-    (λ enough.
-    let r : Reading = record { answer = a; settings = settingsIn b } in
-    (r, listIn b ++ drop (signalSize * signalsOf b) lent, read-done b lent r sound enough z place refl refl))
+    (λ enough. (record { answer = a; settings = settingsIn b }, _, read-done sound enough z place refl refl))
     (λ short.
     let r : Reading = record { answer = Room (signalSize * signalsOf b); settings = fiveZeros } in
-    (r, lent, read-short b lent r sound (lt-of-not-le short) refl refl)))
-    (λ n.
-    let r : Reading = record { answer = a; settings = fiveZeros } in
-    (r, lent, read-refused b lent r f n refl))
+    (r, lent, read-short sound (lt-of-not-le short) refl refl)))
+    (λ n. (record { answer = a; settings = fiveZeros }, lent, read-refused f n refl))
 
 pub settings-exists : (b : List ℕ) → (s : Settings) × SettingsOutcome b s
 settings-exists b =
@@ -116,9 +112,8 @@ module _ {b lent exit : List ℕ} {r : Reading} (read : ReadOutcome b lent r exi
       holds-zero (signals b) _ _ (readingRows b (length lent)) rows (read .answer)
 
   -- so with room for 600 signals a refusal is one by 1 to 5, whatever is asked after
-  module _ (enough : signalSize * 600 ≤ length lent) (refused : numberOf (r .answer) ≡ 0 → ⊥) where
-    pub read-unsound : Hold (bookRows b) → ⊥
-    read-unsound sound = refused (sound-read sound (omega (arith, sound-count b sound .0)) .0)
-
-    pub read-refuses : (rest : List Row) (done : ℕ → Type 0) → Answers (bookRows b ++ rest) done (r .answer)
-    read-refuses rest done = same-front (listRoom b lent) (signals b) _ _ (bookRows b) rest done read-unsound (read .answer)
+  pub read-refuses : signalSize * 600 ≤ length lent → (numberOf (r .answer) ≡ 0 → ⊥)
+      → (rest : List Row) (done : ℕ → Type 0) → Answers (bookRows b ++ rest) done (r .answer)
+  read-refuses enough refused rest done =
+      same-front (listRoom b lent) (signals b) _ _ (bookRows b) rest done
+      (λ sound. refused (sound-read sound (omega (arith, sound-count b sound .0)) .0)) (read .answer)

@@ -32,7 +32,7 @@ judged c =
 returns : tie.Need-returns
 returns c =
     let number = c .before .before in
-    read-refused _ _ _ (number .before .judge .ensures) (λ z. omega (arith, number .number .ensures))
+    read-refused (number .before .judge .ensures) (λ z. omega (arith, number .number .ensures))
     (c .no-settings .ensures)
 
 cast-t9 : tie.Need-cast-t9
@@ -45,7 +45,7 @@ returns-2 c =
     let place = c .before .before in
     let (sound, signals) = judged (place .before) in
     let words = ap (λ (n : ℕ). Room (signalSize * n)) (place .place .ensures ∙ signals) in
-    read-short _ _ _ sound (omega (arith, place .place .ensures)) words (c .no-settings2 .ensures)
+    read-short sound (omega (arith, place .place .ensures)) words (c .no-settings2 .ensures)
 
 copy-list-requires : tie.Need-copy-list-requires
 copy-list-requires c κs =
@@ -66,7 +66,7 @@ returns-3 c =
     let book = begin (place .before) .args .book .now in
     let list = begin (place .before) .args .list .now in
     let (sound, signals) = judged (place .before) in
-    read-done _ _ _ sound (omega (arith, place .place .ensures)) (omega (arith, place .before .before .number .ensures))
+    read-done sound (omega (arith, place .place .ensures)) (omega (arith, place .before .before .number .ensures))
     signals (c .settings-in .ensures)
     (copied .copy-list .ensures
     ∙ ap (λ (n : ℕ). upTo (listWord book) (signalSize * n) ++ drop (signalSize * n) list)

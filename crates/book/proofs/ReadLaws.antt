@@ -10,7 +10,7 @@ use native.Mathlib.Omega.{arith}
 use lib.ListN.{length, take, drop}
 use lib.Seq.{take-at}
 use Rattle.laws.specs.Rows.{Row, Hold}
-use Rattle.laws.proofs.RowLaws.{hold-join, hold-front, hold-rest, zero-holds, holds-zero}
+use Rattle.laws.proofs.RowLaws.{hold-join, hold-front, zero-holds, holds-zero}
 use Rattle.laws.proofs.RowLaws.{pass, refused-front, same-front}
 use Rattle.terms.specs.declared.Settings.{Settings}
 use Rattle.terms.specs.declared.Answer.the-variants.{Room}
@@ -86,7 +86,6 @@ settings-exists b =
 pub record ReadGives (b lent : List ℕ) (r : Reading) (exit : List ℕ) : Type 0 where
   pub sound : Hold (bookRows b)
   pub signals : placeOf (r .answer) ≡ signalsOf b
-  pub enough : signalSize * signalsOf b ≤ length lent
   pub settings : r .settings ≡ settingsIn b
   pub words : take (signalSize * signalsOf b) exit ≡ listIn b
 
@@ -99,7 +98,6 @@ module _ {b lent exit : List ℕ} {r : Reading} (read : ReadOutcome b lent r exi
       record {
         sound = hold-front (bookRows b) (listRoom b lent) rows;
         signals = place;
-        enough = hold-rest (bookRows b) (listRoom b lent) rows .0;
         settings = given .0;
         words = ap (take (signalSize * signalsOf b)) (given .1) ∙ take-at (listIn b) _ _ (list-length b);
       }

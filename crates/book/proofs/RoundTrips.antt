@@ -29,17 +29,17 @@ pub write-then-read : {s : Settings} {l room exit lent back : List ℕ} {a : Ans
     → length l ≤ length lent → ReadOutcome (take (512 * placeOf a) exit) lent r back
     → (numberOf (r .answer) ≡ 0) × (placeOf (r .answer) ≡ count l) × (r .settings ≡ s)
     × (back ≡ l ++ drop (length l) lent)
-write-then-read {s} {l} {lent = lent} {back} {r = r} settings words write z enough outcome =
-    let w = write-gives write z in
-    let read = rw (w .book) at outcome in
-    let m = written-count s l settings words (w .in-range) in
-    let all : signalSize * signalsOf (bookOf s l) ≡ length l = omega (arith, w .in-range .whole) in
-    let (done, place) = sound-read read (written-sound s l settings words (w .in-range)) (omega arith) in
+write-then-read {s} {l} {lent = lent} settings words write z enough outcome =
+    let (right, book) = write-gives write z in
+    let read = rw book at outcome in
+    let m = written-count s l settings words right in
+    let all : signalSize * signalsOf (bookOf s l) ≡ length l = omega (arith, right .whole) in
+    let (done, place) = sound-read read (written-sound s l settings words right) (omega arith) in
     let given = read .done done in (
       done,
       place ∙ m,
-      given .0 ∙ written-back s l settings words (w .in-range),
-      given .1 ∙ (λ i. written-list s l settings words (w .in-range) i ++ drop (all i) lent),
+      given .0 ∙ written-back s l settings words right,
+      given .1 ∙ (λ i. written-list s l settings words right i ++ drop (all i) lent),
     )
 
 -- writing what was read: done, byte for byte the book, and what lies behind stays
@@ -47,21 +47,19 @@ pub read-then-write : {b lent back room exit : List ℕ} {r : Reading} {a : Answ
     → AllBelow 256 b → ReadOutcome b lent r back → numberOf (r .answer) ≡ 0
     → length b ≤ length room → WriteOutcome (r .settings) (take (signalSize * placeOf (r .answer)) back) room a exit
     → (numberOf a ≡ 0) × (placeOf a ≡ blocksIn b) × (exit ≡ b ++ drop (length b) room)
-read-then-write {b} {back = back} {room} {exit} {r} {a} bytes read z enough outcome =
+read-then-write {b} {room = room} bytes read z enough outcome =
     let g = read-gives read z in
     let write = rw (g .settings, g .signals, g .words) at outcome in
-    let right = list-in-range b (g .sound) in
-    let blocks : blocksFor (count (listIn b)) ≡ blocksIn b =
-    ap blocksFor (list-count b) ∙ sym (sound-count b (g .sound) .1) in
+    let blocks = ap blocksFor (list-count b) ∙ sym (sound-count b (g .sound) .1) in
     let size : 512 * blocksFor (count (listIn b)) ≡ length b = omega (arith, sound-length b (g .sound) .whole) in
     let (done, place) = holds-zero (λ p. p ≡ blocksFor (count (listIn b))) _ _ (writingRows (listIn b) (length room))
-    (right, (omega arith, tt)) (write .answer) in
+    (list-in-range b (g .sound), (omega arith, tt)) (write .answer) in
     (done, place ∙ blocks, write .done done ∙ (λ i. sound-written b (g .sound) bytes i ++ drop (size i) room))
 
 -- two different sound books never read alike: accepted with the same outcome, they are the same book
 pub alike-same : {b b′ lent back : List ℕ} {r : Reading} → AllBelow 256 b → AllBelow 256 b′
     → ReadOutcome b lent r back → ReadOutcome b′ lent r back → numberOf (r .answer) ≡ 0 → b ≡ b′
-alike-same {b} {b′} {back = back} bytes bytes′ read read′ z =
+alike-same {b} {b′} bytes bytes′ read read′ z =
     let g = read-gives read z in
     let h = read-gives read′ z in
     cc (sound-written b (g .sound) bytes, sound-written b′ (h .sound) bytes′)

@@ -1,6 +1,6 @@
 -- Laws of writing: one for each way out, by which every list has an outcome; and what a caller learns from the answer.
 -- Assumes nothing.
-use mathlib.Core.Path.{_≡_, refl, ap, _∙_}
+use mathlib.Core.Path.{_≡_, refl}
 use mathlib.Core.List.{List, _++_}
 use mathlib.Core.Logic.{inl, inr, dite}
 use Prim.Native.Nat.{ℕ, _*_, _≤_, _<_}
@@ -52,21 +52,10 @@ write-exists s l lent =
 
 -- ---- what a caller learns
 
-pub record WriteGives (s : Settings) (l lent : List ℕ) (a : Answer) (exit : List ℕ) : Type 0 where
-  pub in-range : CountInRange l
-  pub enough : 512 * blocksFor (count l) ≤ length lent
-  pub blocks : placeOf a ≡ blocksFor (count l)
-  pub book : take (512 * placeOf a) exit ≡ bookOf s l
-
 pub write-gives : {s : Settings} {l lent exit : List ℕ} {a : Answer} → WriteOutcome s l lent a exit → numberOf a ≡ 0
-    → WriteGives s l lent a exit
-write-gives {s} {l} {lent} {exit} {a} write z =
-    let done : ℕ → Type 0 = λ p. p ≡ blocksFor (count l) in
-    let (rows, place) = zero-holds done _ _ (writingRows l (length lent)) (lit≤ tt, (lit≤ tt, tt)) (write .answer) z in
+    → CountInRange l × (take (512 * placeOf a) exit ≡ bookOf s l)
+write-gives {s} {l} {lent} {a = a} write z =
+    let (rows, place) = zero-holds (λ p. p ≡ blocksFor (count l)) _ _ (writingRows l (length lent))
+    (lit≤ tt, (lit≤ tt, tt)) (write .answer) z in
     let size : length (bookOf s l) ≡ 512 * placeOf a = omega (arith, written-length s l) in
-    record {
-      in-range = rows .0;
-      enough = rows .1 .0;
-      blocks = place;
-      book = ap (take (512 * placeOf a)) (write .done z) ∙ take-at (bookOf s l) _ _ size;
-    }
+    (rows .0, rw (write .done z) (take-at (bookOf s l) _ _ size))

@@ -3,20 +3,19 @@
 use mathlib.Core.Path.{_≡_, refl, sym, ap, _∙_, subst}
 use mathlib.Core.List.{List}
 use mathlib.Core.Logic.{dite}
-use Prim.Native.Nat.{ℕ, zero, suc, _+_, _-_, _*_, _/_, _%_, _^_, _≤_, _<_}
+use Prim.Native.Nat.{ℕ, zero, suc, _+_, _-_, _*_, _/_, _%_, _≤_, _<_}
 use native.Mathlib.Decide.{decLt}
 use native.Mathlib.Omega.{arith}
-use lib.Dec.{lit<}
 use lib.ListN.{length, getD}
 use Rattle.laws.specs.Rows.{Hold}
 use Rattle.terms.specs.Lists.{signalSize, count, CountInRange}
 use Rattle.book.specs.Words.{AllBelow, wordAt}
-use Rattle.book.specs.Blocks.{AreWords, sectionSize, signalsIn, blocksFor, settingsWords, signalWords}
+use Rattle.book.specs.Blocks.{sectionSize, signalsIn, blocksFor, settingsWords, signalWords}
 use Rattle.book.specs.Blocks.{bodyWord, blockWord, bookWord, bookOf}
 use Rattle.book.specs.Reading.{blocksIn, inBlock, signalsOf, usedIn, bookRows, settingsIn, listWord, listIn}
 use Rattle.book.proofs.UpToLaws.{upTo-length, upTo-at, check-same}
-use Rattle.book.proofs.WordLaws.{all-below, word-fits, bytes-of-words}
-use Rattle.book.proofs.BlockLaws.{signal-listed, body-zero, block-body, block-check}
+use Rattle.book.proofs.WordLaws.{bytes-of-words}
+use Rattle.book.proofs.BlockLaws.{each-at, signal-listed, body-zero, block-body, block-check}
 use Rattle.book.proofs.SoundLaws.{sound-length, sound-count, sound-check, sound-kind, sound-share, sound-zeros}
 
 -- ---- the list that is read
@@ -31,25 +30,6 @@ list-count b = omega (arith, list-length b)
 pub list-at : (b : List ℕ) (i : ℕ) → i < signalSize * signalsOf b → getD (listIn b) i 0 ≡ listWord b i
 unfolding listIn
 list-at b i h = upTo-at (listWord b) (signalSize * signalsOf b) i h
-
--- what is read of bytes are words
-module _ (b : List ℕ) (bytes : AllBelow 256 b) where
-  pub settings-words : AreWords (settingsIn b)
-  unfolding settingsIn
-  settings-words =
-      record {
-        cycle = word-fits b bytes 2;
-        slot = word-fits b bytes 3;
-        slots = word-fits b bytes 4;
-        packing = word-fits b bytes 5;
-        payload = word-fits b bytes 6;
-      }
-
-  pub list-words : AllBelow (2 ^ 32) (listIn b)
-  unfolding listWord
-  list-words =
-      all-below (2 ^ 32) (listIn b) (lit< tt)
-      (λ i h. subst (λ (x : ℕ). x < 2 ^ 32) (sym (list-at b i (omega (arith, list-length b)))) (word-fits b bytes _))
 
 module _ (b : List ℕ) (sound : Hold (bookRows b)) where
   pub list-in-range : CountInRange (listIn b)
@@ -75,13 +55,9 @@ module _ (b : List ℕ) (sound : Hold (bookRows b)) where
   unfolding settingsIn settingsWords signalWords
   own k zero h v = sound-kind b sound k h .0
   own k (suc zero) h v = sound-kind b sound k h .1
-  own zero (suc (suc zero)) h v = refl
-  own zero (suc (suc (suc zero))) h v = refl
-  own zero (suc (suc (suc (suc zero)))) h v = refl
-  own zero (suc (suc (suc (suc (suc zero))))) h v = refl
-  own zero (suc (suc (suc (suc (suc (suc zero)))))) h v = refl
-  own zero (suc (suc (suc (suc (suc (suc (suc zero))))))) h v = sym (list-count b)
-  own zero (suc (suc (suc (suc (suc (suc (suc (suc w)))))))) h v = absurd (omega arith)
+  own zero (suc (suc w)) h v =
+      each-at (λ d x. inBlock b 0 (suc (suc d)) ≡ x) (settingsWords (settingsIn b) (count (listIn b)))
+      (refl, (refl, (refl, (refl, (refl, (sym (list-count b), tt)))))) w (omega arith)
   own (suc k) (suc (suc zero)) h v =
       sound-share b sound (suc k) h ∙ ap (λ (m : ℕ). signalsIn m (suc k)) (sym (list-count b))
   own (suc k) (suc (suc (suc d))) h v =

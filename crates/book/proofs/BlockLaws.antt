@@ -2,7 +2,7 @@
 -- block; what stands in a block that is written.
 -- Assumes nothing.
 use mathlib.Core.Path.{_≡_, refl, ap, subst, _∙_}
-use mathlib.Core.List.{List, _∷_}
+use mathlib.Core.List.{List, [], _∷_}
 use Prim.Native.Nat.{ℕ, zero, suc, _+_, _-_, _*_, _≤_, _<_, min}
 use native.Mathlib.Omega.{arith}
 use lib.Dec.{lit≤}
@@ -37,6 +37,16 @@ lowest-numbered m P i lowest =
 
 -- ---- what stands in a block
 
+-- a fact of each word and its place
+abbrev pub EachAt : (ℕ → ℕ → Type 0) → List ℕ → Type 0
+EachAt P [] = Unit {0}
+EachAt P (x ∷ l) = P 0 x × EachAt (λ d. P (suc d)) l
+
+pub each-at : (P : ℕ → ℕ → Type 0) (l : List ℕ) → EachAt P l → (d : ℕ) → d < length l → P d (getD l d 0)
+each-at P [] each d h = absurd (omega arith)
+each-at P (x ∷ l) each zero h = each .0
+each-at P (x ∷ l) each (suc d) h = each-at (λ d. P (suc d)) l (each .1) d (omega arith)
+
 -- what holds of every later block holds of a block that is not block 0
 pub later : (P : ℕ → Type 0) → ((k : ℕ) → P (suc k)) → (k : ℕ) → (k ≡ 0 → ⊥) → P k
 later P h zero n = absurd (n refl)
@@ -49,14 +59,11 @@ body-content s l k w h = let place : suc (suc (w - 2)) ≡ w = omega arith in ap
 -- a setting stands at the word that its table says
 pub setting-listed : (s : Settings) (m w : ℕ) → 2 ≤ w → w < 7 → settingWord s w ≡ getD (settingsWords s m) (w - 2) 0
 unfolding settingsWords
-setting-listed s m zero low high = absurd (omega arith)
-setting-listed s m (suc zero) low high = absurd (omega arith)
-setting-listed s m (suc (suc zero)) low high = refl
-setting-listed s m (suc (suc (suc zero))) low high = refl
-setting-listed s m (suc (suc (suc (suc zero)))) low high = refl
-setting-listed s m (suc (suc (suc (suc (suc zero))))) low high = refl
-setting-listed s m (suc (suc (suc (suc (suc (suc zero)))))) low high = refl
-setting-listed s m (suc (suc (suc (suc (suc (suc (suc w))))))) low high = absurd (omega arith)
+setting-listed s m w low high =
+    let place : suc (suc (w - 2)) ≡ w = omega arith in
+    rw place at (each-at (λ d x. d < 5 → settingWord s (suc (suc d)) ≡ x) (settingsWords s m)
+    (λ h. refl, (λ h. refl, (λ h. refl, (λ h. refl, (λ h. refl, (λ h. absurd (omega arith), tt))))))
+    (w - 2) (omega arith) (omega arith))
 
 -- the words of a signal block behind its share are those of the list
 pub signal-listed : (l : List ℕ) (k d : ℕ) → d < sectionSize

@@ -110,10 +110,6 @@ byte-of-word b j h =
     at (suc (suc (suc zero))) l c d e f = omega arith
     at (suc (suc (suc (suc i)))) l c d e f = absurd (omega arith)
 
-pub word-fits : (b : List ℕ) → AllBelow 256 b → (p : ℕ) → wordAt b p < 2 ^ 32
-unfolding wordAt
-word-fits b h p = omega (arith, h (4 * p + 0), h (4 * p + 1), h (4 * p + 2), h (4 * p + 3))
-
 -- bytes are those of the words that are read from them
 pub bytes-of-words : (b : List ℕ) → AllBelow 256 b → (f : ℕ → ℕ) (n : ℕ) → length b ≡ 4 * n
     → ((p : ℕ) → p < n → wordAt b p ≡ f p) → b ≡ bytesOf f n

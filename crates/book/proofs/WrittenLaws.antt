@@ -1,7 +1,7 @@
 -- The book of given values, read: each of its words is the one that was meant, it is sound, and gives the values back.
 -- Assumes nothing.
 use mathlib.Core.Path.{_≡_, refl, sym, ap, _∙_, subst}
-use mathlib.Core.List.{List}
+use mathlib.Core.List.{List, _∷_}
 use mathlib.Core.Logic.{dite}
 use Prim.Native.Nat.{ℕ, zero, suc, _+_, _-_, _*_, _/_, _%_, _^_, _≤_, _<_}
 use native.Mathlib.Decide.{decLt}
@@ -19,14 +19,14 @@ use Rattle.book.specs.Reading.{blocksIn, inBlock, signalsOf, usedIn, boo
 use Rattle.book.specs.Reading.{LengthRight, CheckRight, KindRight, CountRight, ZerosRight}
 use Rattle.book.proofs.UpToLaws.{upTo-is, check-same}
 use Rattle.book.proofs.WordLaws.{all-below, word-of-bytes, bytes-length}
-use Rattle.book.proofs.BlockLaws.{each-numbered, body-listed, body-zero, block-body, block-check}
+use Rattle.book.proofs.BlockLaws.{each-at, each-numbered, body-listed, body-zero, block-body, block-check}
 
 below-part : (n a c : ℕ) (l : List ℕ) → 0 < n → AllBelow n l → AllBelow n (take c (drop a l))
 below-part n a c l some all =
     all-below n (take c (drop a l)) some
     (λ i h.
     let low : i < c = omega (arith, length-take c (drop a l)) in
-    subst (λ (x : ℕ). x < n) (sym (getD-take c (drop a l) i 0 low ∙ getD-drop a l i 0)) (all (a + i)))
+    rw (getD-take c (drop a l) i 0 low, getD-drop) (all (a + i)))
 
 pub written-length : (s : Settings) (l : List ℕ) → length (bookOf s l) ≡ 512 * blocksFor (count l)
 unfolding bookOf
@@ -37,16 +37,11 @@ module _ (s : Settings) (l : List ℕ) (settings : AreWords s) (fit : AllBelow (
 
   body-fits : (k w : ℕ) → k < 2 ^ 32 → bodyWord s l k w < 2 ^ 32
   unfolding settingsWords signalWords
-  body-fits k zero fits = fits
-  body-fits zero (suc zero) fits = lit< tt
+  body-fits zero w fits =
+      let block : List ℕ = 0 ∷ 1 ∷ settingsWords s (count l) in
+      all-below (2 ^ 32) block (lit< tt) (each-at (λ d x. x < 2 ^ 32) block (omega (arith, right .few))) w
+  body-fits (suc k) zero fits = fits
   body-fits (suc k) (suc zero) fits = lit< tt
-  body-fits zero (suc (suc zero)) fits = settings .cycle
-  body-fits zero (suc (suc (suc zero))) fits = settings .slot
-  body-fits zero (suc (suc (suc (suc zero)))) fits = settings .slots
-  body-fits zero (suc (suc (suc (suc (suc zero))))) fits = settings .packing
-  body-fits zero (suc (suc (suc (suc (suc (suc zero)))))) fits = settings .payload
-  body-fits zero (suc (suc (suc (suc (suc (suc (suc zero))))))) fits = omega (arith, right .few)
-  body-fits zero (suc (suc (suc (suc (suc (suc (suc (suc w)))))))) fits = lit< tt
   body-fits (suc k) (suc (suc zero)) fits = omega arith
   body-fits (suc k) (suc (suc (suc w))) fits =
       below-part (2 ^ 32) (sectionSize * (suc k - 1)) sectionSize l (lit< tt) fit w
@@ -54,11 +49,8 @@ module _ (s : Settings) (l : List ℕ) (settings : AreWords s) (fit : AllBelow (
   block-fits : (k w : ℕ) → k < 2 ^ 32 → w < 128 → blockWord s l k w < 2 ^ 32
   unfolding checkOf
   block-fits k w fits h =
-      dite (decLt w 127) (λ low. subst (λ (x : ℕ). x < 2 ^ 32) (sym (block-body s l k w low)) (body-fits k w fits))
-      (λ high.
-      let last : w ≡ 127 = omega arith in
-      let check : checkOf (bodyWord s l k) < 2 ^ 32 = omega arith in
-      subst (λ (x : ℕ). x < 2 ^ 32) (sym (ap (blockWord s l k) last ∙ block-check s l k)) check)
+      dite (decLt w 127) (λ low. rw (block-body s l k w low) (body-fits k w fits))
+      (λ high. let last : w ≡ 127 = omega arith in rw (last, block-check s l k) (omega arith))
 
   -- ---- its words, read
 

@@ -1,9 +1,9 @@
 -- A sound book: each of its words is the word that writing makes of the settings and the list that are read from it.
 -- Assumes nothing.
-use mathlib.Core.Path.{_≡_, refl, sym, ap, _∙_, subst}
+use mathlib.Core.Path.{_≡_, refl, sym, ap, _∙_}
 use mathlib.Core.List.{List}
 use mathlib.Core.Logic.{dite}
-use Prim.Native.Nat.{ℕ, zero, suc, _+_, _-_, _*_, _/_, _%_, _≤_, _<_}
+use Prim.Native.Nat.{ℕ, zero, suc, _+_, _-_, _*_, _/_, _%_, _<_}
 use native.Mathlib.Decide.{decLt}
 use native.Mathlib.Omega.{arith}
 use lib.ListN.{length, getD}
@@ -38,21 +38,9 @@ module _ (b : List ℕ) (sound : Hold (bookRows b)) where
 
   -- ---- its words
 
-  -- word d behind the share of a signal block is one of the list
-  listed : (k d : ℕ) → d < sectionSize → sectionSize * k + d < signalSize * signalsOf b
-      → inBlock b (suc k) (suc (suc (suc d))) ≡ getD (listIn b) (sectionSize * (suc k - 1) + d) 0
-  unfolding listWord
-  listed k d h there =
-      let same : sectionSize * k + d ≡ sectionSize * (suc k - 1) + d = omega arith in
-      let block : suc k ≡ 1 + (sectionSize * k + d) / sectionSize = omega arith in
-      let word : suc (suc (suc d)) ≡ 3 + (sectionSize * k + d) % sectionSize = omega arith in
-      (λ i. inBlock b (block i) (word i))
-      ∙ sym (list-at b (sectionSize * k + d) there)
-      ∙ ap (λ (n : ℕ). getD (listIn b) n 0) same
-
   -- a word of a block's own
   own : (k w : ℕ) → k < blocksIn b → w < usedIn (signalsOf b) k → inBlock b k w ≡ bodyWord (settingsIn b) (listIn b) k w
-  unfolding settingsIn settingsWords signalWords
+  unfolding settingsIn settingsWords signalWords listWord
   own k zero h v = sound-kind b sound k h .0
   own k (suc zero) h v = sound-kind b sound k h .1
   own zero (suc (suc w)) h v =
@@ -61,24 +49,22 @@ module _ (b : List ℕ) (sound : Hold (bookRows b)) where
   own (suc k) (suc (suc zero)) h v =
       sound-share b sound (suc k) h ∙ ap (λ (m : ℕ). signalsIn m (suc k)) (sym (list-count b))
   own (suc k) (suc (suc (suc d))) h v =
-      listed k d (omega arith) (omega arith) ∙ sym (signal-listed (listIn b) (suc k) d (omega arith))
+      let there : sectionSize * (suc k - 1) + d < signalSize * signalsOf b = omega arith in
+      ap (wordAt b) (omega arith) ∙ sym (signal-listed (listIn b) (suc k) d (omega arith) ∙ list-at b _ there)
 
   body : (k : ℕ) → k < blocksIn b → (w : ℕ) → w < 127 → inBlock b k w ≡ bodyWord (settingsIn b) (listIn b) k w
   body k h w v =
       dite (decLt w (usedIn (signalsOf b) k)) (λ low. own k w h low)
       (λ high.
-      let past = subst (λ (m : ℕ). usedIn m k ≤ w) (sym (list-count b)) (omega arith) in
-      sound-zeros b sound k h w (omega arith) v ∙ sym (body-zero (settingsIn b) (listIn b) list-in-range k w past))
+      sound-zeros b sound k h w (omega arith) v
+      ∙ sym (body-zero (settingsIn b) (listIn b) list-in-range k w (rw (list-count b) (omega arith))))
 
   word : (k : ℕ) → k < blocksIn b → (w : ℕ) → w < 128 → inBlock b k w ≡ blockWord (settingsIn b) (listIn b) k w
   word k h w v =
       dite (decLt w 127) (λ low. body k h w low ∙ sym (block-body (settingsIn b) (listIn b) k w low))
       (λ high.
       let last : w ≡ 127 = omega arith in
-      ap (inBlock b k) last
-      ∙ sound-check b sound k h
-      ∙ check-same (inBlock b k) (bodyWord (settingsIn b) (listIn b) k) (body k h)
-      ∙ sym (ap (blockWord (settingsIn b) (listIn b) k) last ∙ block-check (settingsIn b) (listIn b) k))
+      rw (last, sound-check b sound k h, block-check (settingsIn b) (listIn b) k) (check-same _ _ (body k h)))
 
   -- byte for byte, the book is what writing makes of what is read
   pub sound-written : AllBelow 256 b → bookOf (settingsIn b) (listIn b) ≡ b
@@ -87,6 +73,4 @@ module _ (b : List ℕ) (sound : Hold (bookRows b)) where
       let blocks = sound-count b sound .1 ∙ ap blocksFor (sym (list-count b)) in
       let whole : length b ≡ 4 * (128 * blocksFor (count (listIn b))) = omega (arith, sound-length b sound .whole) in
       sym (bytes-of-words b bytes (bookWord (settingsIn b) (listIn b)) (128 * blocksFor (count (listIn b))) whole
-      (λ p h.
-      let place : p ≡ 128 * (p / 128) + p % 128 = omega arith in
-      ap (wordAt b) place ∙ word (p / 128) (omega arith) (p % 128) (omega arith)))
+      (λ p h. ap (wordAt b) (omega arith) ∙ word (p / 128) (omega arith) (p % 128) (omega arith)))

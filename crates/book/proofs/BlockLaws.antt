@@ -73,13 +73,6 @@ signal-listed l k d h =
     let before = sectionSize * (k - 1) in
     getD-take sectionSize (drop before l) d 0 h ∙ getD-drop before l d 0
 
-pub body-listed : (s : Settings) (l : List ℕ) (k d : ℕ) → (k ≡ 0 → ⊥) → d < sectionSize
-    → bodyWord s l k (3 + d) ≡ getD l (sectionSize * (k - 1) + d) 0
-body-listed s l zero d n h = absurd (n refl)
-body-listed s l (suc k) d n h =
-    let place : 3 + d ≡ suc (suc (suc d)) = omega arith in
-    ap (bodyWord s l (suc k)) place ∙ signal-listed l (suc k) d h
-
 -- as many words as a block's signals have stand in it, and no more
 section-own : (n m k : ℕ) → n ≡ signalSize * m
     → min sectionSize (n - sectionSize * k) ≤ signalSize * min perBlock (m - perBlock * k)

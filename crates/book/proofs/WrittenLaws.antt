@@ -12,14 +12,14 @@ use lib.Seq.{getD-take, getD-drop}
 use Rattle.laws.specs.Rows.{Hold}
 use Rattle.terms.specs.declared.Settings.{Settings}
 use Rattle.terms.specs.Lists.{signalSize, count, CountInRange}
-use Rattle.book.specs.Words.{AllBelow, upTo, checkOf}
+use Rattle.book.specs.Words.{AllBelow, upTo, wordAt, checkOf}
 use Rattle.book.specs.Blocks.{AreWords, sectionSize, signalsIn, blocksFor, settingsWords, signalWords}
 use Rattle.book.specs.Blocks.{bodyWord, blockWord, bookWord, bookOf}
 use Rattle.book.specs.Reading.{blocksIn, inBlock, signalsOf, usedIn, bookRows, settingsIn, listWord, listIn}
-use Rattle.book.specs.Reading.{LengthRight, CheckRight, KindRight, CountRight, ZerosRight}
+use Rattle.book.specs.Reading.{CheckRight, KindRight, CountRight, ZerosRight}
 use Rattle.book.proofs.UpToLaws.{upTo-is, check-same}
 use Rattle.book.proofs.WordLaws.{all-below, word-of-bytes, bytes-length}
-use Rattle.book.proofs.BlockLaws.{each-at, each-numbered, body-listed, body-zero, block-body, block-check}
+use Rattle.book.proofs.BlockLaws.{each-at, each-numbered, signal-listed, body-zero, block-body, block-check}
 
 below-part : (n a c : ℕ) (l : List ℕ) → 0 < n → AllBelow n l → AllBelow n (take c (drop a l))
 below-part n a c l some all =
@@ -61,21 +61,19 @@ module _ (s : Settings) (l : List ℕ) (settings : AreWords s) (fit : AllBelow (
     written-word : (w : ℕ) → w < 128 → inBlock (bookOf s l) k w ≡ blockWord s l k w
     unfolding bookOf bookWord
     written-word w v =
-        let within : k < blocksFor (count l) = omega (arith, written-blocks) in
         let block : (128 * k + w) / 128 ≡ k = omega arith in
         let word : (128 * k + w) % 128 ≡ w = omega arith in
         let here : bookWord s l (128 * k + w) ≡ blockWord s l k w = λ i. blockWord s l (block i) (word i) in
-        let fits = subst (λ (x : ℕ). x < 2 ^ 32) (sym here) (block-fits k w (omega (arith, right .few)) v) in
-        word-of-bytes (bookWord s l) (128 * blocksFor (count l)) (128 * k + w) (omega arith) fits ∙ here
+        word-of-bytes (bookWord s l) (128 * blocksFor (count l)) (128 * k + w) (omega (arith, written-blocks))
+        (rw here (block-fits k w (omega (arith, right .few, written-blocks)) v))
+        ∙ here
 
     written-body : (w : ℕ) → w < 127 → inBlock (bookOf s l) k w ≡ bodyWord s l k w
     written-body w v = written-word w (omega arith) ∙ block-body s l k w v
 
     written-check : CheckRight (bookOf s l) k
     written-check =
-        written-word 127 (lit< tt)
-        ∙ block-check s l k
-        ∙ check-same (bodyWord s l k) (inBlock (bookOf s l) k) (λ w v. sym (written-body w v))
+        rw (written-word 127 (lit< tt), block-check s l k) (sym (check-same (inBlock (bookOf s l) k) _ written-body))
 
     written-kind : KindRight (bookOf s l) k
     written-kind = (written-body 0 (lit< tt), written-body 1 (lit< tt))
@@ -99,35 +97,34 @@ module _ (s : Settings) (l : List ℕ) (settings : AreWords s) (fit : AllBelow (
   -- the book of given values is sound
   pub written-sound : Hold (bookRows (bookOf s l))
   written-sound =
-      let size = written-length s l in
-      let length-right : LengthRight (bookOf s l) =
-      record { some = omega arith; whole = omega arith; few = omega (arith, right .few) } in
-      let checks = each-numbered _ (CheckRight (bookOf s l)) written-check in
-      let kinds = each-numbered _ (KindRight (bookOf s l)) written-kind in
-      let counts = each-numbered _ (CountRight (bookOf s l)) written-share in
-      let zeros = each-numbered _ (ZerosRight (bookOf s l)) written-zeros in
-      (length-right, (checks, (kinds, (counts, (zeros, tt)))))
+      let b = bookOf s l in (
+        omega (arith, written-length s l, right .few),
+        (
+          each-numbered _ (CheckRight b) written-check,
+          (
+            each-numbered _ (KindRight b) written-kind,
+            (each-numbered _ (CountRight b) written-share, (each-numbered _ (ZerosRight b) written-zeros, tt)),
+          ),
+        ),
+      )
 
   -- ---- and gives the values back
 
   pub written-back : settingsIn (bookOf s l) ≡ s
   unfolding settingsIn settingsWords
-  written-back = λ i. record {
-    cycle = written-body 0 first 2 (lit< tt) i;
-    slot = written-body 0 first 3 (lit< tt) i;
-    slots = written-body 0 first 4 (lit< tt) i;
-    packing = written-body 0 first 5 (lit< tt) i;
-    payload = written-body 0 first 6 (lit< tt) i;
-  }
+  written-back =
+      let word = written-body 0 first in
+      rw (word 2 (lit< tt), word 3 (lit< tt), word 4 (lit< tt), word 5 (lit< tt), word 6 (lit< tt))
 
   written-listed : (i : ℕ) → i < length l → listWord (bookOf s l) i ≡ getD l i 0
   unfolding listWord
   written-listed i h =
-      let within : 1 + i / sectionSize < blocksIn (bookOf s l) = omega (arith, written-blocks) in
-      let place : sectionSize * (1 + i / sectionSize - 1) + i % sectionSize ≡ i = omega arith in
-      written-body (1 + i / sectionSize) within (3 + i % sectionSize) (omega arith)
-      ∙ body-listed s l (1 + i / sectionSize) (i % sectionSize) (λ e. omega arith) (omega arith)
-      ∙ ap (λ (n : ℕ). getD l n 0) place
+      let k = suc (i / sectionSize) in
+      let d = i % sectionSize in
+      ap (wordAt (bookOf s l)) (omega arith)
+      ∙ written-body k (omega (arith, written-blocks)) (suc (suc (suc d))) (omega arith)
+      ∙ signal-listed l k d (omega arith)
+      ∙ ap (λ (n : ℕ). getD l n 0) (omega arith)
 
   pub written-list : listIn (bookOf s l) ≡ l
   unfolding listIn

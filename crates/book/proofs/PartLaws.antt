@@ -6,7 +6,7 @@ use mathlib.Core.Logic.{_⊎_, inl, inr, ⊎-elim, dite, Dec·and}
 use Prim.Native.Nat.{ℕ, _+_, _-_, _*_, _/_, _%_, _≤_, _<_}
 use native.Mathlib.Decide.{decLe}
 use native.Mathlib.Omega.{arith}
-use lib.ListN.{length, getD, take, drop, length-take, length-drop}
+use lib.ListN.{length, getD, drop, length-take, length-drop}
 use Rattle.terms.specs.Lists.{signalSize, entryStart}
 use Rattle.book.specs.Words.{wordAt}
 use Rattle.book.specs.Blocks.{perBlock, sectionSize}
@@ -29,31 +29,19 @@ part-inside b i has =
     let count = sound-count b (has .0) in
     omega (arith, right .whole, has .1)
 
--- the word of a book at which word j of the n-th signal stands, counted from 0
-signal-word-at : (n j : ℕ) → j < signalSize
-    → 128 * (1 + n / perBlock) + 3 + signalSize * (n % perBlock) + j
-    ≡ 128 * (1 + (signalSize * n + j) / sectionSize) + (3 + (signalSize * n + j) % sectionSize)
-signal-word-at n j h =
-    let block : (signalSize * n + j) / sectionSize ≡ n / perBlock = omega arith in
-    let word : (signalSize * n + j) % sectionSize ≡ signalSize * (n % perBlock) + j = omega arith in
-    omega arith
-
 -- the part that the contract gives for signal i of a sound book: twenty bytes, the signal's five words
 pub part-holds : {b r : List ℕ} {place start : ℕ × ℕ} {i : ℕ} → PartOutcome b place i r start → HasSignal b i
     → (length r ≡ partSize) × ((j : ℕ) → j < signalSize → wordAt r j ≡ getD (listIn b) (entryStart signalSize i + j) 0)
 unfolding listWord
 part-holds {b} {i = i} outcome has =
-    let part = outcome .has has .0 in
-    let n : ℕ = i - 1 in
-    let q : ℕ = 128 * (1 + (i - 1) / perBlock) + 3 + signalSize * ((i - 1) % perBlock) in
-    let start : partStart i ≡ 4 * q = omega arith in
-    let size : length (take partSize (drop (partStart i) b)) ≡ partSize =
-    omega (arith, length-take partSize (drop (partStart i) b), length-drop (partStart i) b, part-inside b i has) in (
-      ap length part ∙ size,
+    rw (outcome .has has .0) (
+      omega (arith, length-take partSize (drop (partStart i) b), length-drop (partStart i) b, part-inside b i has),
       λ j h.
-          let listed : signalSize * (i - 1) + j < signalSize * signalsOf b = omega (arith, has .1) in
-          ap (λ (p : List ℕ). wordAt p j) part
-          ∙ word-of-part b (partStart i) partSize q j start (omega arith)
-          ∙ ap (wordAt b) (signal-word-at (i - 1) j h)
-          ∙ sym (list-at b (signalSize * (i - 1) + j) listed),
+          let n = i - 1 in
+          let q = 128 * (1 + n / perBlock) + 3 + signalSize * (n % perBlock) in
+          let block : (signalSize * n + j) / sectionSize ≡ n / perBlock = omega arith in
+          let word : (signalSize * n + j) % sectionSize ≡ signalSize * (n % perBlock) + j = omega arith in
+          word-of-part b (partStart i) partSize q j (omega arith) (omega arith)
+          ∙ ap (wordAt b) (omega arith)
+          ∙ sym (list-at b (signalSize * n + j) (omega (arith, has .1))),
     )

@@ -16,7 +16,7 @@ use Rattle.book.specs.Words.{AllBelow, upTo, wordAt, checkOf}
 use Rattle.book.specs.Blocks.{AreWords, sectionSize, signalsIn, blocksFor, settingsWords, signalWords}
 use Rattle.book.specs.Blocks.{bodyWord, blockWord, bookWord, bookOf}
 use Rattle.book.specs.Reading.{blocksIn, inBlock, signalsOf, usedIn, bookRows, settingsIn, listWord, listIn}
-use Rattle.book.specs.Reading.{CheckRight, KindRight, CountRight, ZerosRight}
+use Rattle.book.specs.Reading.{LengthRight, CheckRight, KindRight, CountRight, ZerosRight}
 use Rattle.book.proofs.UpToLaws.{upTo-is, check-same}
 use Rattle.book.proofs.WordLaws.{all-below, word-of-bytes, bytes-length}
 use Rattle.book.proofs.BlockLaws.{each-at, each-numbered, signal-listed, body-zero, block-body, block-check}
@@ -97,16 +97,12 @@ module _ (s : Settings) (l : List ℕ) (settings : AreWords s) (fit : AllBelow (
   -- the book of given values is sound
   pub written-sound : Hold (bookRows (bookOf s l))
   written-sound =
-      let b = bookOf s l in (
-        omega (arith, written-length s l, right .few),
-        (
-          each-numbered _ (CheckRight b) written-check,
-          (
-            each-numbered _ (KindRight b) written-kind,
-            (each-numbered _ (CountRight b) written-share, (each-numbered _ (ZerosRight b) written-zeros, tt)),
-          ),
-        ),
-      )
+      let b = bookOf s l in
+      let size : LengthRight b = omega (arith, written-length s l, right .few) in
+      let checks = each-numbered _ (CheckRight b) written-check in
+      let kinds = each-numbered _ (KindRight b) written-kind in
+      let counts = each-numbered _ (CountRight b) written-share in
+      (size, (checks, (kinds, (counts, (each-numbered _ (ZerosRight b) written-zeros, tt)))))
 
   -- ---- and gives the values back
 

@@ -2,7 +2,7 @@
 -- Assumes nothing.
 use mathlib.Core.Path.{_≡_, ap, _∙_}
 use mathlib.Core.List.{_++_}
-use Prim.Native.Nat.{ℕ, _*_}
+use Prim.Native.Nat.{ℕ, _*_, _≤_}
 use native.Mathlib.Omega.{arith}
 use lib.ListN.{drop}
 use borrow.Author.Needs.{needs}
@@ -25,6 +25,9 @@ own-blocks : (c : tie.After-blocks-for)
     → c .blocks-for .result ≡ blocksFor (count (begin (c .before .before) .args .list .now))
 own-blocks c = c .blocks-for .ensures ∙ ap blocksFor (c .before .count .ensures)
 
+few : (c : tie.After-blocks-for) → c .blocks-for .result ≤ 26
+few c = omega (arith, in-range (c .before .before) .few, own-blocks c)
+
 returns : tie.Need-returns
 returns c =
     let test = c .before .count-in-range in
@@ -34,9 +37,7 @@ blocks-for-requires : tie.Need-blocks-for-requires
 blocks-for-requires c κs = omega (arith, in-range (c .before) .few, c .count .ensures)
 
 cast-t9 : tie.Need-cast-t9
-cast-t9 c =
-    let made = c .before in
-    omega (arith, in-range (made .before .before) .few, own-blocks made)
+cast-t9 c = omega (arith, few (c .before))
 
 returns-2 : tie.Need-returns-2
 returns-2 c =
@@ -44,14 +45,10 @@ returns-2 c =
     write-short _ _ _ (in-range (made .before .before)) _ (ap (λ (n : ℕ). 512 * n) (own-blocks made)) (omega arith)
 
 fill-requires : tie.Need-fill-requires
-fill-requires c κs =
-    let made = c .before .before in
-    omega (arith, in-range (made .before .before) .few, own-blocks made)
+fill-requires c κs = omega (arith, few (c .before .before))
 
 cast-t13 : tie.Need-cast-t13
-cast-t13 c =
-    let made = c .before .before .before .before .before in
-    omega (arith, in-range (made .before .before) .few, own-blocks made)
+cast-t13 c = omega (arith, few (c .before .before .before .before .before))
 
 returns-3 : tie.Need-returns-3
 unfolding bookOf

@@ -1,6 +1,6 @@
 -- `book::reader::count` meets its contract: in block 0 signal count and block count decide, in a later one its share.
 -- Assumes nothing.
-use mathlib.Core.Path.{_≡_, sym, subst}
+use mathlib.Core.Path.{_≡_}
 use Prim.Native.Nat.{ℕ}
 use borrow.Author.Needs.{needs}
 use Rattle.laws.specs.Says.{Says}
@@ -11,10 +11,7 @@ use Rattle.book.proofs.reader.count.Statement.{statement}
 use Rattle.book.proofs.reader.count.Tie as tie
 
 returns : tie.Need-returns
-returns c =
-    let b = c .before .before .before .args .book .now in
-    let r = c .block-count .result in
-    subst (λ (k : ℕ). Says (CountRight b k) r) (sym (c .before .if1 .taken)) (c .block-count .ensures)
+returns c = rw (c .before .if1 .taken) (c .block-count .ensures)
 
 returns-2 : tie.Need-returns-2
 returns-2 c =

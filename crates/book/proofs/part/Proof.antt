@@ -23,9 +23,6 @@ returns c =
     let at : 0 + place .1 ≡ place .1 = omega arith in
     record { has = λ h. absurd (none h); lacks = λ n. (refl, λ j. (place .0, at j)) }
 
-part-start-requires : tie.Need-part-start-requires
-part-start-requires c κs = there c .1 .0
-
 part-result-end-2 : tie.Need-part-result-end-2
 part-result-end-2 c = omega (arith, part-inside _ _ (there (c .before)), c .part-start .ensures)
 
@@ -45,4 +42,4 @@ pub part-spec : {M : Type 1} → statement M
 part-spec =
     tie.close
     (tie.spec (λ c κs. search needs) (λ c. search needs) (λ c. search needs) (λ c. search needs) returns
-    part-start-requires (λ c. search needs) (λ c. search needs) (λ c. search needs) part-result-end-2 returns-2)
+    (λ c κs. there c .1 .0) (λ c. search needs) (λ c. search needs) (λ c. search needs) part-result-end-2 returns-2)

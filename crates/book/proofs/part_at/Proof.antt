@@ -14,11 +14,8 @@ returns c = given-outside _ _ (refused (c .before .has-signal .result) (c .befor
 there : (c : tie.Else1) → HasSignal (c .before .before .before .args .book .now) (c .before .before .before .args .i)
 there c = granted (c .before .has-signal .result) (c .before .has-signal .ensures) (c .if1 .left)
 
-part-start-requires : tie.Need-part-start-requires
-part-start-requires c κs = there c .1 .0
-
 returns-2 : tie.Need-returns-2
 returns-2 c = given-inside _ _ _ (there (c .before)) (c .part-start .ensures)
 
 pub part-at-spec : {M : Type 1} → statement M
-part-at-spec = tie.close (tie.spec (λ c κs. search needs) returns part-start-requires returns-2)
+part-at-spec = tie.close (tie.spec (λ c κs. search needs) returns (λ c κs. there c .1 .0) returns-2)

@@ -4,21 +4,12 @@ use borrow.Author.Needs.{needs}
 use Rattle.book.proofs.reader.passes.Statement.{statement}
 use Rattle.book.proofs.reader.passes.Tie as tie
 
-returns : tie.Need-returns
-returns c = rw (c .before .enum-told .given .1) (c .check .ensures)
-
-returns-2 : tie.Need-returns-2
-returns-2 c = rw (c .before .enum-told2 .given .1) (c .number-and-kind .ensures)
-
-returns-3 : tie.Need-returns-3
-returns-3 c = rw (c .before .enum-told3 .given .1) (c .count .ensures)
-
-returns-4 : tie.Need-returns-4
-returns-4 c = rw (c .before .enum-told4 .given .1) (c .zeros .ensures)
-
 pub passes-spec : {M : Type 1} → statement M
 passes-spec =
     tie.close
     (tie.spec (λ c. search needs) (λ c κs. search needs) (λ c. search needs) (λ c κs. search needs)
-    (λ c. search needs) (λ c κs. search needs) (λ c. search needs) (λ c κs. search needs) returns returns-2
-    returns-3 returns-4)
+    (λ c. search needs) (λ c κs. search needs) (λ c. search needs) (λ c κs. search needs)
+    (λ c. rw (c .before .enum-told .given .1) (c .check .ensures))
+    (λ c. rw (c .before .enum-told2 .given .1) (c .number-and-kind .ensures))
+    (λ c. rw (c .before .enum-told3 .given .1) (c .count .ensures))
+    (λ c. rw (c .before .enum-told4 .given .1) (c .zeros .ensures)))

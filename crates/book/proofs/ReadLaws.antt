@@ -83,14 +83,14 @@ settings-exists b =
 
 -- ---- what a caller learns
 
-pub record ReadGives (b lent : List ℕ) (r : Reading) (exit : List ℕ) : Type 0 where
+pub record ReadGives (b : List ℕ) (r : Reading) (exit : List ℕ) : Type 0 where
   pub sound : Hold (bookRows b)
   pub signals : placeOf (r .answer) ≡ signalsOf b
   pub settings : r .settings ≡ settingsIn b
   pub words : take (signalSize * signalsOf b) exit ≡ listIn b
 
 module _ {b lent exit : List ℕ} {r : Reading} (read : ReadOutcome b lent r exit) where
-  pub read-gives : numberOf (r .answer) ≡ 0 → ReadGives b lent r exit
+  pub read-gives : numberOf (r .answer) ≡ 0 → ReadGives b r exit
   read-gives z =
       let numbered = reading-numbered b (length lent) in
       let (rows, place) = zero-holds (signals b) _ _ (readingRows b (length lent)) numbered (read .answer) z in

@@ -41,7 +41,8 @@ pub put-more : (f : ℕ → ℕ) {lent room next : List ℕ} (p x : ℕ) → Put
 unfolding storedFrom upTo
 put-more f {lent} p x put fits value e =
     let end : 4 * (p + 1) ≡ 4 * p + 4 = omega arith in
-    rw (e, end) (byte 3 (lit< tt) (byte 2 (lit< tt) (byte 1 (lit< tt) (byte 0 (lit< tt) (rw (← add-zero (4 * p)) at put)))))
+    let start = rw (← add-zero (4 * p)) at put in
+    rw (e, end) (byte 3 (lit< tt) (byte 2 (lit< tt) (byte 1 (lit< tt) (byte 0 (lit< tt) start))))
   where
     byte : {room : List ℕ} (i : ℕ) → i < 4 → Over (byteIn f) lent room (4 * p + i)
         → Over (byteIn f) lent (set room (4 * p + i) (byteOf x i)) (4 * p + (i + 1))
@@ -116,7 +117,7 @@ pub bytes-of-words : (b : List ℕ) → AllBelow 256 b → (f : ℕ → ℕ) (n 
 unfolding byteIn bytesOf
 bytes-of-words b h f n e same =
     upTo-is (byteIn f) (4 * n) b e
-    (λ j l. sym (byte-of-word b j (λ i k. h (4 * (j / 4) + i))) ∙ ap (λ (x : ℕ). byteOf x (j % 4)) (same (j / 4) (omega arith)))
+    (λ j l. rw (← same (j / 4) (omega arith)) (sym (byte-of-word b j (λ i k. h (4 * (j / 4) + i)))))
 
 -- a word of a part that starts at word q
 pub word-of-part : (b : List ℕ) (at n q j : ℕ) → at ≡ 4 * q → 4 * j + 4 ≤ n

@@ -1,8 +1,8 @@
 -- A book that is sound and planned: the rows of reading passed, and the bytes of its results show the filling.
 -- Assumes nothing.
-use mathlib.Core.Path.{_≡_, sym, ap, subst, _∙_}
+use mathlib.Core.Path.{_≡_, ap, _∙_}
 use mathlib.Core.List.{List, _++_}
-use Prim.Native.Nat.{ℕ, _+_, _*_, _-_, _≤_}
+use Prim.Native.Nat.{ℕ, _+_, _*_, _-_}
 use native.Mathlib.Omega.{arith}
 use lib.ListN.{length, getD, take, drop, length-take, length-append, length-drop}
 use lib.Seq.{getD-take, getD-drop, getD-append-add}
@@ -14,7 +14,7 @@ use Rattle.terms.specs.Answers.{numberOf, placeOf}
 use Rattle.terms.specs.Requests.{PlanRoom, request}
 use Rattle.terms.specs.Lists.{count}
 use Rattle.terms.specs.Results.{resultSize}
-use Rattle.book.specs.Words.{bytesOf}
+use Rattle.book.specs.Words.{bytesOf, bytesOver}
 use Rattle.book.specs.Reading.{settingsIn, listIn, bookRows}
 use Rattle.book.proofs.WordLaws.{bytes-length, bytes-after-all, byte-in-front}
 use Rattle.planner.specs.Rows.{Needed}
@@ -39,38 +39,33 @@ module _ (book lent : List ℕ) where
   n = resultSize * count list
 
   -- the words of a plan that is shown, as bytes
-  pub shown-bytes : Hold (bytesRows s list (length lent)) → (blank room : PlanRoom) → PlanShown (request s list) blank room
-      → n ≤ length (room .results)
-      → BytesShown book lent (bytesOf (λ p. getD (take n (room .results)) p 0) (length (take n (room .results))) ++ drop (resultBytes list) lent)
-  shown-bytes (settings, (fits, (signals, (kept, (slots, u))))) blank room shown enough =
+  pub shown-bytes : Hold (bytesRows s list (length lent)) → (blank room : PlanRoom)
+      → PlanShown (request s list) blank room → BytesShown book lent (bytesOver (λ p. getD (take n (room .results)) p 0) n lent)
+  shown-bytes (settings, (fits, (signals, (kept, (slots, u))))) blank room shown =
       record {
         R = shown .R;
         repetitions = shown .repetitions;
         results =
             bytes-show settings signals kept (shown .repetitions) (slots (shown .R) (shown .repetitions)) (λ d. getD (room .results) d 0)
-            (shown .results .shown) words (drop (resultBytes list) lent) long (λ j h. getD-take n (room .results) j 0 h);
-        bytes = λ j h. byte-in-front (λ p. getD words p 0) (length words) (drop (resultBytes list) lent) j (omega (arith, long));
+            (shown .results .shown) word behind (λ j h. getD-take n (room .results) j 0 h);
+        bytes = byte-in-front word n behind;
         same-length = simp (length-append, length-drop) (omega (arith, size, fits));
         later = λ j l.
-            let at : j ≡ length front + (j - resultBytes list) = omega (arith, size) in
-            let back : resultBytes list + (j - resultBytes list) ≡ j = omega arith in
-            ap (λ (i : ℕ). getD (front ++ drop (resultBytes list) lent) i 0) at
-            ∙ getD-append-add front (drop (resultBytes list) lent) (j - resultBytes list) 0
+            let at : j ≡ length (bytesOf word n) + (j - resultBytes list) = omega (arith, size) in
+            ap (λ (i : ℕ). getD (bytesOf word n ++ behind) i 0) at
+            ∙ getD-append-add (bytesOf word n) behind (j - resultBytes list) 0
             ∙ getD-drop (resultBytes list) lent (j - resultBytes list) 0
-            ∙ ap (λ (i : ℕ). getD lent i 0) back;
+            ∙ ap (λ (i : ℕ). getD lent i 0) (omega arith);
       }
     where
-      words : List ℕ
-      words = take n (room .results)
+      word : ℕ → ℕ
+      word p = getD (take n (room .results)) p 0
 
-      front : List ℕ
-      front = bytesOf (λ p. getD words p 0) (length words)
+      behind : List ℕ
+      behind = drop (resultBytes list) lent
 
-      long : length words ≡ n
-      long = simp length-take (omega arith)
-
-      size : length front ≡ resultBytes list
-      size = omega (arith, bytes-length (λ p. getD words p 0) (length words), long)
+      size : length (bytesOf word n) ≡ resultBytes list
+      size = bytes-length word n
 
   pub book-planned : (a : Answer) (exit : List ℕ) → Hold (bookRows book) → BytesPlanned (request s list) lent a exit → BookPlanned book lent a exit
   book-planned a exit sound p =
@@ -82,11 +77,7 @@ module _ (book lent : List ℕ) where
             let held =
             zero-holds (Needed s list) (numberOf a) (placeOf a) (bytesRows s list (length lent)) (bytes-numbered s list (length lent)) (p .answer) z
             .0 in
-            let words = take n (room .results) in
-            let long : length words ≡ n = simp length-take (omega arith) in
-            subst (BytesShown book lent)
-            (sym
-            (e ∙ bytes-after-all words lent (omega (arith, long, held .1 .0))
-            ∙ ap (λ (k : ℕ). bytesOf (λ p. getD words p 0) (length words) ++ drop (4 * k) lent) long))
-            (shown-bytes held blank room shown enough);
+            let long : length (take n (room .results)) ≡ n = simp length-take (omega arith) in
+            let bytes = bytes-after-all (take n (room .results)) lent (omega (arith, long, held .1 .0)) in
+            rw (e, bytes, long) (shown-bytes held blank room shown);
       }

@@ -10,7 +10,7 @@ use Rattle.laws.specs.Rows.{Hold}
 use Rattle.laws.proofs.RowLaws.{past}
 use Rattle.terms.specs.declared.Answer.{Answer}
 use Rattle.terms.specs.declared.Answer.the-variants.{Setting, Room}
-use Rattle.terms.specs.Answers.{numberOf, placeOf, Answers}
+use Rattle.terms.specs.Answers.{numberOf, Answers}
 use Rattle.terms.specs.Requests.{Request, PlanRoom}
 use Rattle.terms.specs.Ranges.{SettingsInRange, LowestOutOfRange}
 use Rattle.terms.specs.Lists.{CountInRange, count}
@@ -53,18 +53,10 @@ module _ (x : Request) (lent : List ℕ) (w : ℕ) (low : LowestOutOfRange (x .s
         {a : Answer} {exit : PlanRoom} (planned : Planned x room a exit) where
       answer : Answers (bytesRows (x .settings) (x .list) (length lent)) (Needed (x .settings) (x .list)) a
       answer =
-          inr (
-            settings,
-            inr (
-              l,
-              past (signalRows (x .settings) (x .list)) (Needed (x .settings) (x .list)) (numberOf a) (placeOf a)
-                  (lentRows x (length (room .cells)) (length (room .results))) held (planned .answer),
-            ),
-          )
-        where
-          held : Hold (lentRows x (length (room .cells)) (length (room .results)))
-          held =
-              (settings, (right, (omega (arith, settings .1 .1 .0 .0, enough .cells), (omega (arith, right .few, enough .results), tt))))
+          let rows = lentRows x (length (room .cells)) (length (room .results)) in
+          let held : Hold rows = (settings, (right, omega (arith, settings .1 .1 .0 .0, right .few, enough))) in
+          let done = Needed (x .settings) (x .list) in
+          inr (settings, inr (l, past (signalRows (x .settings) (x .list)) done _ _ rows held (planned .answer)))
 
       pub refused-later : (numberOf a ≡ 0 → ⊥) → BytesPlanned x lent a lent
       refused-later n = record { answer = answer; refused = λ m. refl; done = λ z. absurd (n z) }

@@ -1,13 +1,11 @@
 -- The words of results handed over as bytes are the words: each is small enough for four bytes.
 -- Assumes nothing.
-use mathlib.Core.Path.{_≡_, sym, subst, _∙_}
+use mathlib.Core.Path.{_≡_, sym, ap, subst, _∙_}
 use mathlib.Core.List.{List, List·Memᴰ, _++_}
 use Prim.Native.Nat.{ℕ, _*_, _^_, _≤_, _<_}
 use native.Mathlib.Omega.{arith}
-use lib.ListN.{length, getD}
 use Rattle.terms.specs.declared.Settings.{Settings}
 use Rattle.terms.specs.declared.Frame.{Frame}
-use Rattle.terms.specs.declared.Result.{Result}
 use Rattle.terms.specs.Ranges.{SettingsInRange, SignalInRange, FrameInRange}
 use Rattle.terms.specs.Lists.{count, signalAt, EachSignal}
 use Rattle.terms.specs.Results.{resultSize, resultAt}
@@ -58,25 +56,36 @@ module _
         wait-below (firstStart s (p .frame)) (spanOf s (p .frame)) (s .packing) (b .first-below) (age .release) (age .reached .sent)
         (age .reached .carries) in
         let most = repetition-most (p .frame .repetition) (g .repetition) in
-        let own-small : Small (p .frame .slot) × Small (p .frame .base) × Small (p .frame .repetition) =
-        (omega (arith, g .slot, settings .1 .1 .0 .0), omega (arith, g .base, most), omega (arith, most)) in
-        let frame = subst (λ (h : Frame). Small (h .slot) × Small (h .base) × Small (h .repetition)) (sym (shown p m .frame)) own-small in
-        (frame .0, frame .1, frame .2, omega (arith, wait, age .reached .age, b .span-most, b .packing-most, b .slot-most))
+        let same = shown p m .frame in
+        omega (
+          arith,
+          ap (λ (f : Frame). f .slot) same,
+          ap (λ (f : Frame). f .base) same,
+          ap (λ (f : Frame). f .repetition) same,
+          g .slot,
+          g .base,
+          most,
+          settings .1 .1 .0 .0,
+          wait,
+          age .reached .age,
+          b,
+        )
 
     words-small : (j : ℕ) → j < resultSize * count list → Small (word j)
     words-small =
         each-word Small word (count list)
-        (λ i b. let r = filled-some list R i b in subst (λ (j : ℕ). EachWord Small (resultAt word j)) (r .2) (place-small (r .0) (r .1)))
+        (λ i b. let r = filled-some list R i b in rw (r .2) at (place-small (r .0) (r .1)))
 
     -- the words of the bytes show what the words show
-    pub bytes-show : (words behind : List ℕ) → length words ≡ resultSize * count list
-        → ((j : ℕ) → j < resultSize * count list → getD words j 0 ≡ word j)
-        → EachResult s list (filled list R) (wordAt (bytesOf (λ p. getD words p 0) (length words) ++ behind))
-    bytes-show words behind long same p m =
-        subst (λ (r : Result). ResultOf s list p r) (sym (same-at _ word (count list) kept-word (p .signal) (filled-own list R p m .0))) (shown p m)
+    pub bytes-show : (f : ℕ → ℕ) (behind : List ℕ) → ((j : ℕ) → j < resultSize * count list → f j ≡ word j)
+        → EachResult s list (filled list R) (wordAt (bytesOf f (resultSize * count list) ++ behind))
+    bytes-show f behind same p m =
+        subst (ResultOf s list p) (sym (same-at _ word (count list) kept-word (p .signal) (filled-own list R p m .0)))
+        (shown p m)
       where
-        kept-word : (j : ℕ) → j < resultSize * count list → wordAt (bytesOf (λ p. getD words p 0) (length words) ++ behind) j ≡ word j
+        kept-word : (j : ℕ) → j < resultSize * count list
+            → wordAt (bytesOf f (resultSize * count list) ++ behind) j ≡ word j
         kept-word j h =
-            word-in-front (λ p. getD words p 0) (length words) behind j (omega (arith, long))
-            ∙ word-of-bytes (λ p. getD words p 0) (length words) j (omega (arith, long)) (omega (arith, same j h, words-small j h))
+            word-in-front f (resultSize * count list) behind j h
+            ∙ word-of-bytes f (resultSize * count list) j h (rw (same j h) (words-small j h))
             ∙ same j h

@@ -1,6 +1,6 @@
 -- For each call of the editor: two outcomes that its contract allows for the same input are equal.
 -- Assumes nothing.
-use mathlib.Core.Path.{_≡_, _∙_, sym, ap, subst}
+use mathlib.Core.Path.{_≡_, _∙_, sym, ap}
 use mathlib.Core.List.{List}
 use mathlib.Core.Logic.{dite}
 use Prim.Native.Nat.{ℕ, _*_, _<_}
@@ -24,8 +24,6 @@ use Rattle.age.specs.AgeGiven.{AgeGiven}
 use Rattle.age.proofs.AgeGivenLaws.{age-given-unique}
 use Rattle.rule.specs.Rule.{RepetitionGiven}
 use Rattle.rule.proofs.RuleLaws.{repetition-given-unique}
-use Rattle.filling.specs.Runs.{Placed}
-use Rattle.filling.specs.Shown.{EachResult}
 use Rattle.filling.proofs.Unique.{filled-same, same-list, words-one}
 use Rattle.book.specs.Words.{wordAt}
 use Rattle.book.specs.Reading.{settingsIn, listIn, bookRows}
@@ -106,8 +104,8 @@ module _ {book lent : List ℕ} where
       same : (j : ℕ) → j < resultSize * count list → wordAt exit j ≡ wordAt exit′ j
       same =
           words-one s list (x .R) (wordAt exit) (wordAt exit′) (x .results)
-          (subst (λ (ps : List Placed). EachResult s list ps (wordAt exit′))
-          (filled-same list (y .R) (x .R) (repetitions-same s list (y .R) (y .repetitions) (x .R) (x .repetitions))) (y .results))
+          (rw (filled-same list (y .R) (x .R) (repetitions-same s list (y .R) (y .repetitions) (x .R) (x .repetitions)))
+          at (y .results))
 
   book-planned-unique : {a b : Answer} {exit exit′ : List ℕ} → BookPlanned book lent a exit → BookPlanned book lent b exit′
       → (a ≡ b) × (exit ≡ exit′)

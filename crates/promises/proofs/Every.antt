@@ -110,7 +110,7 @@ module _ (book l : List ℕ) where
       let cells : 64 * s .slots ≤ length (blank .cells) = omega (arith, length-replicate {A = ℕ} (64 * s .slots) 0) in
       let results : resultSize * count list ≤ length (blank .results) = omega (arith, length-replicate {A = ℕ} (resultSize * count list) 0) in
       let e = plan-exists s list blank (h .0) (h .1 .1) cells results in
-      (_, shown-bytes book l h blank (e .0) (e .1) (omega (arith, results, e .1 .results .same-length)))
+      (_, shown-bytes book l h blank (e .0) (e .1))
 
   pub book-planned-exists : (a : Answer) × (exit : List ℕ) × BookPlanned book l a exit
   book-planned-exists =

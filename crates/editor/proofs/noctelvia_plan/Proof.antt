@@ -1,23 +1,19 @@
 -- `editor::noctelvia_plan` meets its contract: reading, then planning what was read.
 -- Assumes nothing.
-use mathlib.Core.Path.{_≡_, refl, sym, ap, _∙_, subst, subst₂}
+use mathlib.Core.Path.{_≡_, refl, sym, _∙_}
 use mathlib.Core.List.{List}
 use Prim.Native.Nat.{ℕ, _*_, _≤_}
 use native.Mathlib.Omega.{arith}
 use lib.ListN.{take, length-take}
 use borrow.Author.Needs.{needs}
-use Rattle.terms.specs.declared.Settings.{Settings}
-use Rattle.laws.specs.Rows.{Hold}
-use Rattle.terms.specs.Answers.{numberOf, placeOf}
-use Rattle.terms.specs.Requests.{request}
-use Rattle.terms.specs.Lists.{signalSize, CountInRange}
-use Rattle.book.specs.Reading.{signalsOf, settingsIn, listIn, bookRows}
-use Rattle.book.proofs.ReadLaws.{read-gives, read-refuses}
+use Rattle.terms.specs.Answers.{numberOf}
+use Rattle.terms.specs.Lists.{signalSize}
+use Rattle.book.specs.Reading.{signalsOf, settingsIn, listIn}
+use Rattle.book.proofs.ReadLaws.{ReadGives, read-gives, read-refuses}
 use Rattle.book.proofs.SoundLaws.{sound-count}
 use Rattle.book.proofs.AcceptedLaws.{list-in-range}
 use Rattle.planner.specs.Rows.{Needed}
 use Rattle.editor.specs.Rows.{bytesRows}
-use Rattle.editor.specs.Private.{BytesPlanned}
 use Rattle.editor.proofs.BookLaws.{book-planned}
 use Rattle.editor.proofs.noctelvia_plan.Statement.{statement}
 use Rattle.editor.proofs.noctelvia_plan.Tie as tie
@@ -48,25 +44,15 @@ abbrev Book : tie.Else1 → List ℕ
 Book e = Read e .before .before .before .before .args .book .now
 
 -- what reading gave of a sound book
-record Given (e : tie.Else1) : Type 0 where
-  sound : Hold (bookRows (Book e))
-  signals : placeOf (Read e .read .result .answer) ≡ signalsOf (Book e)
-  settings : Read e .read .result .settings ≡ settingsIn (Book e)
-  words : take (signalSize * signalsOf (Book e)) (Read e .read .last .1 .0) ≡ listIn (Book e)
-
-gives : (e : tie.Else1) → Given e
-gives e =
-    let g = read-gives (Read e .read .ensures) (sym (e .before .number .ensures) ∙ e .if1 .left) in
-    record { sound = g .sound; signals = g .signals; settings = g .settings; words = g .words }
+gives : (e : tie.Else1) → ReadGives (Book e) (Read e .read .result) (Read e .read .last .1 .0)
+gives e = read-gives (Read e .read .ensures) (sym (e .before .number .ensures) ∙ e .if1 .left)
 
 few : (e : tie.Else1) → signalsOf (Book e) ≤ 600
 few e = sound-count (Book e) (gives e .sound) .0
 
 -- the list that is planned is the book's
 read-list : (c : tie.After-place) → take (signalSize * c .place .result) (Read (c .before .before) .read .last .1 .0) ≡ listIn (Book (c .before .before))
-read-list c =
-    let g = gives (c .before .before) in
-    ap (λ (n : ℕ). take (signalSize * n) (Read (c .before .before) .read .last .1 .0)) (c .place .ensures ∙ g .signals) ∙ g .words
+read-list c = let g = gives (c .before .before) in rw (c .place .ensures, g .signals) (g .words)
 
 array-share-prefix-list : tie.Need-array-share-prefix-list
 array-share-prefix-list c = let e = c .before .before in omega (arith, c .place .ensures, gives e .signals, few e)
@@ -79,7 +65,7 @@ slice-aggregate-plan-bytes c =
 plan-bytes-requires : tie.Need-plan-bytes-requires
 plan-bytes-requires c κs =
     let p = c .before .before in
-    subst CountInRange (sym (read-list p)) (list-in-range (Book (p .before .before)) (gives (p .before .before) .sound))
+    rw (read-list p) (list-in-range (Book (p .before .before)) (gives (p .before .before) .sound))
 
 returns-2 : tie.Need-returns-2
 returns-2 c =
@@ -90,10 +76,8 @@ returns-2 c =
     record {
       given = call .plan-bytes .result;
       planned =
-          book-planned (Book e) (a .results .now) (call .plan-bytes .result) (call .plan-bytes .last .1 .1 .0) (gives e .sound)
-          (subst₂
-          (λ (t : Settings) (l : List ℕ). BytesPlanned (request t l) (a .results .now) (call .plan-bytes .result) (call .plan-bytes .last .1 .1 .0))
-          (gives e .settings) (read-list p) (call .plan-bytes .ensures));
+          book-planned (Book e) (a .results .now) (call .plan-bytes .result) _ (gives e .sound)
+          (rw (gives e .settings, read-list p) at (call .plan-bytes .ensures));
       answer = c .packed2 .ensures;
     }
 

@@ -1,16 +1,12 @@
 -- `editor::plan_bytes` meets its contract: 6 and 10 by their tests, then planning's own answer, its words as bytes.
 -- Assumes nothing.
-use mathlib.Core.Path.{_∙_, sym, ap, subst}
+use mathlib.Core.Path.{_∙_, sym}
 use mathlib.Core.List.{List}
-use Prim.Native.Nat.{ℕ, _*_}
+use Prim.Native.Nat.{ℕ}
 use native.Mathlib.Omega.{arith}
-use lib.ListN.{take, length-take}
+use lib.ListN.{length-take}
 use borrow.Author.Needs.{needs}
-use Rattle.terms.specs.declared.Answer.the-variants.{Room}
 use Rattle.terms.specs.Requests.{Request, request}
-use Rattle.terms.specs.Results.{resultSize}
-use Rattle.book.specs.Words.{bytesAfter}
-use Rattle.editor.specs.Private.{BytesPlanned}
 use Rattle.editor.proofs.BytesLaws.{refused-6, refused-10, refused-later, bytes-done}
 use Rattle.editor.proofs.plan_bytes.Statement.{statement}
 use Rattle.editor.proofs.plan_bytes.Tie as tie
@@ -34,7 +30,7 @@ returns-2 : tie.Need-returns-2
 returns-2 c =
     let m = c .before in
     let w = m .before .before in
-    subst (λ (k : ℕ). BytesPlanned (asked w) (lent w) (Room (4 * (resultSize * k))) (lent w)) (sym (m .count .ensures))
+    rw (m .count .ensures)
     (refused-10 (asked w) (lent w) _ (w .setting-out-of-range .ensures) (omega arith) (omega (arith, m .count .ensures)))
 
 -- the room that planning is lent is enough, and so are the bytes
@@ -66,10 +62,7 @@ returns-4 c =
     let done =
     bytes-done (asked w) (lent w) _ (w .setting-out-of-range .ensures) (omega arith) (omega (arith, m .count .ensures)) (Begin w .pre) _
     (record { cells = omega arith; results = omega arith }) (p .plan .ensures) (sym (e .before .number .ensures) ∙ e .if3 .left) in
-    subst (BytesPlanned (asked w) (lent w) (p .plan .result))
-    (sym
-    (put .put-words .ensures
-    ∙ ap (λ (k : ℕ). bytesAfter (take (resultSize * k) (p .plan .last .1 .1 .1 .0)) (lent w)) (m .count .ensures))) done
+    rw (put .put-words .ensures, m .count .ensures) done
 
 pub plan-bytes-spec : {M : Type 1} → statement M
 plan-bytes-spec =

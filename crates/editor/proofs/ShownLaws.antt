@@ -56,20 +56,10 @@ module _
         wait-below (firstStart s (p .frame)) (spanOf s (p .frame)) (s .packing) (b .first-below) (age .release) (age .reached .sent)
         (age .reached .carries) in
         let most = repetition-most (p .frame .repetition) (g .repetition) in
-        let same = shown p m .frame in
-        omega (
-          arith,
-          ap (λ (f : Frame). f .slot) same,
-          ap (λ (f : Frame). f .base) same,
-          ap (λ (f : Frame). f .repetition) same,
-          g .slot,
-          g .base,
-          most,
-          settings .1 .1 .0 .0,
-          wait,
-          age .reached .age,
-          b,
-        )
+        let slot = ap (λ (f : Frame). f .slot) (shown p m .frame) in
+        let base = ap (λ (f : Frame). f .base) (shown p m .frame) in
+        let repetition = ap (λ (f : Frame). f .repetition) (shown p m .frame) in
+        omega (arith, age .reached .age, settings .1 .1 .0 .0)
 
     words-small : (j : ℕ) → j < resultSize * count list → Small (word j)
     words-small =

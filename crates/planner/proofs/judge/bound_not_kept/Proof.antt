@@ -1,13 +1,12 @@
 -- `planner::judge::bound_not_kept` meets its contract: a loop over the signals that keeps the repetitions found.
 -- The measure is what is left of the signals. Assumes nothing.
-use mathlib.Core.Path.{_≡_, refl, subst}
-use Prim.Native.Nat.{_+_, _-_, _≤_}
+use mathlib.Core.Path.{_≡_, refl}
+use Prim.Native.Nat.{ℕ, _+_, _-_, _≤_}
 use native.Mathlib.Omega.{arith}
 use lib.ListN.{length, length-set}
 use native.Mathlib.Nat.{pos-of-ne-zero}
 use borrow.Author.Needs.{needs}
-use Rattle.terms.specs.declared.Signal.{Signal}
-use Rattle.rule.specs.Rule.{Keeps, segment, Largest, RepetitionGiven}
+use Rattle.rule.specs.Rule.{Keeps, segment, Largest}
 use Rattle.laws.proofs.LowestLaws.{Reached, reached-first}
 use Rattle.terms.specs.Lists.{count, signalAt}
 use Rattle.planner.proofs.JudgedLaws.{FoundIn, found-next, found-all, found-not}
@@ -31,20 +30,18 @@ near c =
     omega (arith, Begin l .pre .count .right .few, Begin l .pre .count .counted, l .loop .inv .0 .first)
 
 -- its repetition is the largest that keeps its bound
-largest :
-    (c : tie.After-repetition Inv-loop μ-loop) →
-    Largest
-    (Keeps (Begin (c .before .before .before) .args .s)
-    (signalAt (Begin (c .before .before .before) .args .list .now) (c .before .before .before .loop .i))
-    (segment (Begin (c .before .before .before) .args .s)))
-    (c .repetition .result)
+abbrev LargestKept : tie.At-loop Inv-loop μ-loop → ℕ → Type 0
+LargestKept l =
+    let a = Begin l .args in
+    Largest (Keeps (a .s) (signalAt (a .list .now) (l .loop .i)) (segment (a .s)))
+
+largest : (c : tie.After-repetition Inv-loop μ-loop) → LargestKept (c .before .before .before) (c .repetition .result)
 largest c =
     let l = c .before .before .before in
-    let b = Begin l in
-    let x = signalAt (b .args .list .now) (l .loop .i) in
-    subst (λ (y : Signal). RepetitionGiven (b .args .s) y (c .repetition .result)) (c .before .signal-at .ensures) (c .repetition .ensures)
-    .inside
-    (record { settings = b .pre .settings; signal = b .pre .signals (l .loop .i) (l .loop .inv .0 .first, omega (arith, b .pre .count .counted)) })
+    let pre = Begin l .pre in
+    let given = rw (c .before .signal-at .ensures) at (c .repetition .ensures) in
+    let own = pre .signals (l .loop .i) (l .loop .inv .0 .first, omega (arith, pre .count .counted)) in
+    given .inside (record { settings = pre .settings; signal = own })
 
 loop-holds : tie.Need-loop-holds Inv-loop μ-loop
 loop-holds c =
@@ -54,9 +51,7 @@ loop-holds c =
 returns : tie.Need-returns Inv-loop μ-loop
 returns c =
     let l = c .before .before .before .before in
-    let b = Begin l in
-    found-not (b .args .s) (b .args .list .now) (l .loop .repetitions) (l .loop .i) (l .loop .inv .0) (omega (arith, b .pre .count .counted))
-    (subst (Largest (Keeps (b .args .s) (signalAt (b .args .list .now) (l .loop .i)) (segment (b .args .s)))) (c .if1 .taken) (largest (c .before)))
+    found-not (l .loop .inv .0) (omega (arith, Begin l .pre .count .counted)) (rw (c .if1 .taken) at (largest (c .before)))
 
 add-i : tie.Need-add-i Inv-loop μ-loop
 add-i c = let close = near (c .before .before .before) in omega arith
@@ -64,19 +59,17 @@ add-i c = let close = near (c .before .before .before) in omega arith
 loop-again : tie.Need-loop-again Inv-loop μ-loop
 loop-again c =
     let l = c .before .before .before .before in
-    let b = Begin l in
+    let pre = Begin l .pre in
     let close = near (c .before .before .before) in (
-      found-next (b .args .s) (b .args .list .now) (l .loop .repetitions) (l .loop .i) (c .before .repetition .result)
-          (omega (arith, l .loop .inv .1, b .pre .room)) (l .loop .inv .0) (omega (arith, b .pre .count .counted)) (largest (c .before))
-          (pos-of-ne-zero (c .if1 .left)),
+      found-next (l .loop .inv .0) (omega (arith, l .loop .inv .1, pre .room)) (omega (arith, pre .count .counted))
+          (largest (c .before)) (pos-of-ne-zero (c .if1 .left)),
       simp length-set (l .loop .inv .1),
     )
 
 returns-2 : tie.Need-returns-2 Inv-loop μ-loop
 returns-2 c =
     let l = c .before in
-    let b = Begin l in
-    found-all (b .args .s) (b .args .list .now) (l .loop .repetitions) (l .loop .i) (l .loop .inv .0) (omega (arith, b .pre .count .counted))
+    found-all (l .loop .inv .0) (omega (arith, Begin l .pre .count .counted))
 
 pub bound-not-kept-spec : {M : Type 1} → statement M
 bound-not-kept-spec =

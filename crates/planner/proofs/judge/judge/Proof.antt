@@ -24,8 +24,8 @@ asked j = request (Begin j .args .s) (Begin j .args .list .now)
 lent : (e : tie.Else1) → Hold (lentRows (asked (e .before .before)) (Begin (e .before .before) .args .cells) (Begin (e .before .before) .args .results))
 lent e =
     let j = e .before .before in
-    lent-holds (asked j) (Begin j .args .cells) (Begin j .args .results) (Begin j .args .repetitions .now) (j .judge-lent .result)
-    (j .judge-lent .ensures) (sym (e .before .number .ensures) ∙ e .if1 .left)
+    lent-holds (asked j) (Begin j .args .cells) (Begin j .args .results) (j .judge-lent .result) (j .judge-lent .ensures)
+    (sym (e .before .number .ensures) ∙ e .if1 .left)
 
 -- past the second every signal is in range
 signals : (e : tie.Else2) → EachSignal (asked (e .before .before .before .before .before) .list) (SignalInRange (asked (e .before .before .before .before .before) .settings))
@@ -33,9 +33,7 @@ signals e = none-each _ _ (e .before .field-out-of-range .result) (e .before .fi
 
 returns : tie.Need-returns
 returns c =
-    let j = c .before .before in
-    judged-lent (asked j) (Begin j .args .cells) (Begin j .args .results) (Begin j .args .repetitions .now) (j .judge-lent .result)
-    (j .judge-lent .ensures) (λ z. c .if1 .taken (c .before .number .ensures ∙ z))
+    judged-lent (c .before .before .judge-lent .ensures) (λ z. c .if1 .taken (c .before .number .ensures ∙ z))
 
 cast-m : tie.Need-cast-m
 cast-m c = omega (arith, lent (c .before) .1 .0 .few, c .count .ensures)
@@ -44,11 +42,7 @@ field-out-of-range-requires : tie.Need-field-out-of-range-requires
 field-out-of-range-requires c κs = record { right = lent (c .before) .1 .0; counted = c .count .ensures }
 
 returns-2 : tie.Need-returns-2
-returns-2 c =
-    let e = c .before .before .before in
-    let j = e .before .before in
-    judged-7 (asked j) (Begin j .args .cells) (Begin j .args .results) (Begin j .args .repetitions .now) (lent e)
-    (c .before .field-out-of-range .result) (c .before .field-out-of-range .ensures) (c .if2 .taken)
+returns-2 c = judged-7 (lent (c .before .before .before)) (c .before .field-out-of-range .ensures) (c .if2 .taken)
 
 bound-not-kept-requires : tie.Need-bound-not-kept-requires
 bound-not-kept-requires c κs =
@@ -64,17 +58,13 @@ returns-3 : tie.Need-returns-3
 returns-3 c =
     let b = c .before .before .before in
     let e = b .before .before in
-    let j = e .before .before .before .before .before in
-    judged-8 (asked j) (Begin j .args .cells) (Begin j .args .results) (b .bound-not-kept .last .1 .1 .1 .0) (lent (e .before .before .before))
-    (signals e) (b .bound-not-kept .result) (b .bound-not-kept .ensures) (c .if3 .taken)
+    judged-8 (lent (e .before .before .before)) (signals e) (b .bound-not-kept .ensures) (c .if3 .taken)
 
 returns-4 : tie.Need-returns-4
 returns-4 c =
     let b = c .before .before .before in
     let e = b .before .before in
-    let j = e .before .before .before .before .before in
-    judged-done (asked j) (Begin j .args .cells) (Begin j .args .results) (b .bound-not-kept .last .1 .1 .1 .0) (lent (e .before .before .before))
-    (signals e) (b .bound-not-kept .result) (b .bound-not-kept .ensures) (c .if3 .left)
+    judged-done (lent (e .before .before .before)) (signals e) (b .bound-not-kept .ensures) (c .if3 .left)
 
 pub judge-spec : {M : Type 1} → statement M
 judge-spec =

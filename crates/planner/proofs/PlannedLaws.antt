@@ -6,12 +6,12 @@ use mathlib.Core.Logic.{inl, inr}
 use Prim.Native.Nat.{ℕ, _≤_}
 use native.Mathlib.Omega.{arith}
 use lib.ListN.{length}
-use Rattle.laws.specs.Rows.{FirstRow, Hold}
+use Rattle.laws.specs.Rows.{Row, FirstRow, Hold}
 use Rattle.laws.specs.Lowest.{EachTo}
 use Rattle.laws.proofs.RowLaws.{Numbered, zero-holds, pass, refused-front}
 use Rattle.terms.specs.declared.Settings.{Settings}
 use Rattle.terms.specs.declared.Answer.{Answer}
-use Rattle.terms.specs.Answers.{numberOf, placeOf}
+use Rattle.terms.specs.Answers.{numberOf}
 use Rattle.terms.specs.Requests.{Request, PlanRoom}
 use Rattle.terms.specs.Ranges.{Repetition}
 use Rattle.terms.specs.Lists.{count, signalAt, groupOf, groups, EachSignal}
@@ -42,67 +42,64 @@ module _ (s : Settings) (list : List ℕ) (R : ℕ → ℕ) (r : Repetitions s l
     pub needed-same : needed list R ≡ needed list Q
     needed-same = slots-same (groupOf list) R Q (count list) repetitions-same groups
 
-module _ (x : Request) (lent : PlanRoom) (words : List ℕ) (a : Answer)
-    (j : Judged x (length (lent .cells)) (length (lent .results)) a words) where
-  numbered : Numbered (judgedRows x (length (lent .cells)) (length (lent .results)))
-  numbered = (omega arith, (omega arith, (omega arith, (omega arith, (omega arith, (omega arith, tt))))))
+-- the rows that were judged
+abbrev judgedIn : Request → PlanRoom → List Row
+judgedIn x lent = judgedRows x (length (lent .cells)) (length (lent .results))
 
+numbered : (x : Request) (lent : PlanRoom) → Numbered (judgedIn x lent)
+numbered x lent = omega arith
+
+module _ {x : Request} (lent : PlanRoom) {words : List ℕ} {a : Answer}
+    (j : Judged x (length (lent .cells)) (length (lent .results)) a words) where
   -- the judge's refusal is planning's
   pub planned-refused : (numberOf a ≡ 0 → ⊥) → Planned x lent a lent
   planned-refused n =
       record {
         answer =
-            refused-front (slotsRow (x .settings) (x .list) ∷ []) (Needed (x .settings) (x .list)) (numberOf a) (placeOf a)
-            (judgedRows x (length (lent .cells)) (length (lent .results))) (λ p. p ≡ 0) numbered n (j .answer);
+            refused-front (slotsRow (x .settings) (x .list) ∷ []) (Needed (x .settings) (x .list)) _ _ (judgedIn x lent)
+            (λ p. p ≡ 0) (numbered x lent) n (j .answer);
         refused = λ m. refl;
         done = λ e. absurd (n e);
       }
 
   module _ (e : numberOf a ≡ 0) (room : 600 ≤ length words) where
-    held : Hold (judgedRows x (length (lent .cells)) (length (lent .results)))
-    held =
-        zero-holds (λ p. p ≡ 0) (numberOf a) (placeOf a) (judgedRows x (length (lent .cells)) (length (lent .results))) numbered (j .answer) e .0
+    held : Hold (judgedIn x lent)
+    held = zero-holds (λ p. p ≡ 0) _ _ (judgedIn x lent) (numbered x lent) (j .answer) e .0
 
     fillable : Fillable x words lent
-    fillable = fit held
-      where
-        fit : Hold (judgedRows x (length (lent .cells)) (length (lent .results))) → Fillable x words lent
-        fit (settings, (right, (cells, (results, (signals, (kept, u)))))) =
-            record {
-              grouped =
-                  record {
-                    right = right;
-                    given = omega (arith, right .few);
-                    group = λ i b. omega (arith, signals i b .unit);
-                    seven = kept-seven (x .settings) (x .list) (repetitionIn words) (j .found e) kept;
-                  };
-              cells = cells;
-              results = results;
-            }
+    fillable =
+        let (settings, (right, (cells, (results, (signals, (kept, u)))))) = held in
+        record {
+          grouped =
+              record {
+                right = right;
+                given = omega (arith, right .few);
+                group = λ i b. omega (arith, signals i b .unit);
+                seven = kept-seven (x .settings) (x .list) (repetitionIn words) (j .found e) kept;
+              };
+          cells = cells;
+          results = results;
+        }
 
     -- 9, or done, where the rows before it hold
     asked : (n p : ℕ) → FirstRow (slotsRow (x .settings) (x .list) ∷ []) (Needed (x .settings) (x .list)) n p
         → FirstRow (planningRows x lent) (Needed (x .settings) (x .list)) n p
-    asked n p f =
-        pass (slotsRow (x .settings) (x .list) ∷ []) (Needed (x .settings) (x .list)) n p
-        (judgedRows x (length (lent .cells)) (length (lent .results))) held f
+    asked n p = pass (slotsRow (x .settings) (x .list) ∷ []) (Needed (x .settings) (x .list)) n p (judgedIn x lent) held
 
-    pub planned-filled : (f : Filled) (exit : PlanRoom) → FillOutcome x words lent f exit → Planned x lent (answerOf f) exit
-    planned-filled f exit (unfit n) = absurd (n fillable)
-    planned-filled f exit (short h l) =
+    pub planned-filled : {f : Filled} {exit : PlanRoom} → FillOutcome x words lent f exit → Planned x lent (answerOf f) exit
+    planned-filled (unfit n) = absurd (n fillable)
+    planned-filled (short h l) =
+        let over : slotsRow (x .settings) (x .list) .holds → ⊥ = λ all. omega (arith, all (repetitionIn words) (j .found e)) in
         record {
-          answer = asked 9 _ (inl ((λ all. omega (arith, all (repetitionIn words) (j .found e))), refl, (repetitionIn words, j .found e, refl)));
+          answer = asked 9 _ (inl (over, refl, (repetitionIn words, j .found e, refl)));
           refused = λ n. refl;
           done = λ z. absurd (omega arith);
         }
-    planned-filled f exit (done h l cells results) =
+    planned-filled (done h l cells results) =
+        let fits : slotsRow (x .settings) (x .list) .holds =
+        λ R r. omega (arith, needed-same (x .settings) (x .list) R r (repetitionIn words) (j .found e)) in
         record {
-          answer =
-              asked 0 _
-              (inr (
-                (λ R r. omega (arith, needed-same (x .settings) (x .list) R r (repetitionIn words) (j .found e))),
-                (refl, (repetitionIn words, j .found e, refl)),
-              ));
+          answer = asked 0 _ (inr (fits, (refl, (repetitionIn words, j .found e, refl))));
           refused = λ n. absurd (n refl);
           done = λ z. record { R = repetitionIn words; repetitions = j .found e; cells = cells; results = results };
         }

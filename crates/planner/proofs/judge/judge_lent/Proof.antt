@@ -40,7 +40,7 @@ cast-t11 c = let few = settings (c .before .before .before .before) in omega ari
 returns-3 : tie.Need-returns-3
 returns-3 c =
     let e = c .before .before in
-    inr (settings (e .before .before), inr (counted e, inl ((λ h. omega arith), refl, refl)))
+    inr (settings (e .before .before), inr (counted e, inl (omega arith)))
 
 cast-t12 : tie.Need-cast-t12
 cast-t12 c =
@@ -51,19 +51,13 @@ returns-4 : tie.Need-returns-4
 returns-4 c =
     let a = c .before in
     let e = a .before .before .before in
-    inr (
-      settings (e .before .before),
-      inr (counted e, inr (omega arith, inl ((λ h. omega (arith, a .count .ensures)), refl, omega (arith, a .count .ensures)))),
-    )
+    inr (settings (e .before .before), inr (counted e, inr (omega arith, inl (omega (arith, a .count .ensures)))))
 
 returns-5 : tie.Need-returns-5
 returns-5 c =
     let a = c .before in
     let e = a .before .before .before in
-    inr (
-      settings (e .before .before),
-      inr (counted e, inr (omega arith, inr (omega (arith, a .count .ensures), (refl, refl)))),
-    )
+    inr (settings (e .before .before), inr (counted e, inr (omega arith, inr (omega (arith, a .count .ensures)))))
 
 pub judge-lent-spec : {M : Type 1} → statement M
 judge-lent-spec =

@@ -3,7 +3,7 @@
 use mathlib.Core.Path.{_≡_, _∙_, sym, ap}
 use mathlib.Core.List.{List}
 use mathlib.Core.Logic.{dite}
-use Prim.Native.Nat.{ℕ, _*_, _<_}
+use Prim.Native.Nat.{ℕ, _*_}
 use native.Mathlib.Decide.{ℕ-discrete}
 use native.Mathlib.Omega.{arith}
 use lib.ListN.{length}
@@ -92,20 +92,13 @@ module _ {book lent : List ℕ} where
   -- the words of the bytes are the same, so the bytes are
   bytes-one : {exit exit′ : List ℕ} → BytesShown book lent exit → BytesShown book lent exit′ → exit ≡ exit′
   bytes-one {exit} {exit′} x y =
+      let s = settingsIn book in
+      let list = listIn book in
+      let same = repetitions-same s list (y .R) (y .repetitions) (x .R) (x .repetitions) in
       same-list (resultBytes list) lent (x .same-length) (y .same-length) (x .later) (y .later)
-      (same-bytes exit exit′ (resultSize * count list) (x .bytes) (y .bytes) same)
-    where
-      s : Settings
-      s = settingsIn book
-
-      list : List ℕ
-      list = listIn book
-
-      same : (j : ℕ) → j < resultSize * count list → wordAt exit j ≡ wordAt exit′ j
-      same =
-          words-one s list (x .R) (wordAt exit) (wordAt exit′) (x .results)
-          (rw (filled-same list (y .R) (x .R) (repetitions-same s list (y .R) (y .repetitions) (x .R) (x .repetitions)))
-          at (y .results))
+      (same-bytes exit exit′ (resultSize * count list) (x .bytes) (y .bytes)
+      (words-one s list (x .R) (wordAt exit) (wordAt exit′) (x .results)
+      (rw (filled-same list (y .R) (x .R) same) at (y .results))))
 
   book-planned-unique : {a b : Answer} {exit exit′ : List ℕ} → BookPlanned book lent a exit → BookPlanned book lent b exit′
       → (a ≡ b) × (exit ≡ exit′)

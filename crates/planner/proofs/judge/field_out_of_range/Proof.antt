@@ -1,12 +1,10 @@
 -- `planner::judge::field_out_of_range` meets its contract: a loop over the signals. The measure is what is left of them.
 -- Assumes nothing.
-use mathlib.Core.Path.{subst}
-use Prim.Native.Nat.{ℕ, _+_, _-_}
+use Prim.Native.Nat.{_+_, _-_}
 use native.Mathlib.Omega.{arith}
 use borrow.Author.Needs.{needs}
 use Rattle.laws.proofs.SaysLaws.{granted, refused}
 use Rattle.laws.proofs.LowestLaws.{Reached, reached-first, reached-next, none-without, stops}
-use Rattle.terms.specs.declared.Signal.{Signal}
 use Rattle.terms.specs.Ranges.{SignalInRange}
 use Rattle.terms.specs.Lists.{count, signalAt}
 use Rattle.planner.proofs.judge.field_out_of_range.Statement.{statement}
@@ -21,19 +19,15 @@ abbrev μ-loop : tie.MeasureT-loop
 abbrev Begin : tie.At-loop Inv-loop μ-loop → tie.Start Inv-loop μ-loop
 Begin l = l .before .before
 
--- what is asked of signal j
-abbrev InRange : tie.At-loop Inv-loop μ-loop → ℕ → Type 0
-InRange l j = SignalInRange (Begin l .args .s) (signalAt (Begin l .args .list .now) j)
-
 loop-holds : tie.Need-loop-holds Inv-loop μ-loop
 loop-holds c = reached-first _ _
 
 returns : tie.Need-returns Inv-loop μ-loop
 returns c =
     let l = c .before .before .before .before in
-    stops _ (InRange l) (l .loop .i) (l .loop .inv) (omega (arith, Begin l .pre .counted))
-    (subst (λ (x : Signal). SignalInRange (Begin l .args .s) x → ⊥) (c .before .before .signal-at .ensures)
-    (refused (c .before .signal-in-range .result) (c .before .signal-in-range .ensures) (c .if1 .taken)))
+    let test = c .before .signal-in-range in
+    let not = rw (c .before .before .signal-at .ensures) at (refused (test .result) (test .ensures) (c .if1 .taken)) in
+    stops _ _ (l .loop .i) (l .loop .inv) (omega (arith, Begin l .pre .counted)) not
 
 add-i : tie.Need-add-i Inv-loop μ-loop
 add-i c =
@@ -43,14 +37,14 @@ add-i c =
 loop-again : tie.Need-loop-again Inv-loop μ-loop
 loop-again c =
     let l = c .before .before .before .before in
-    reached-next _ (InRange l) (l .loop .i) (l .loop .inv) (omega (arith, Begin l .pre .counted))
-    (subst (SignalInRange (Begin l .args .s)) (c .before .before .signal-at .ensures)
-    (granted (c .before .signal-in-range .result) (c .before .signal-in-range .ensures) (c .if1 .left)))
+    let test = c .before .signal-in-range in
+    let here = rw (c .before .before .signal-at .ensures) at (granted (test .result) (test .ensures) (c .if1 .left)) in
+    reached-next _ _ (l .loop .i) (l .loop .inv) (omega (arith, Begin l .pre .counted)) here
 
 returns-2 : tie.Need-returns-2 Inv-loop μ-loop
 returns-2 c =
     let l = c .before in
-    none-without _ (InRange l) (l .loop .i) (l .loop .inv) (omega (arith, Begin l .pre .counted))
+    none-without _ _ (l .loop .i) (l .loop .inv) (omega (arith, Begin l .pre .counted))
 
 pub field-out-of-range-spec : {M : Type 1} → statement M
 field-out-of-range-spec =

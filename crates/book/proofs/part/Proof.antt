@@ -40,6 +40,5 @@ returns-2 c =
 
 pub part-spec : {M : Type 1} → statement M
 part-spec =
-    tie.close
-    (tie.spec (λ c κs. search needs) (λ c. search needs) (λ c. search needs) (λ c. search needs) returns
+    tie.close (tie.spec (λ c κs. search needs) (λ c. search needs) (λ c. search needs) (λ c. search needs) returns
     (λ c κs. there c .1 .0) (λ c. search needs) (λ c. search needs) (λ c. search needs) part-result-end-2 returns-2)

@@ -46,6 +46,5 @@ returns-2 c =
 
 pub put-words-spec : {M : Type 1} → statement M
 put-words-spec =
-    tie.close
-    (tie.spec Inv-loop μ-loop returns loop-holds (λ c. search needs) (λ c. search needs) put-word-requires
+    tie.close (tie.spec Inv-loop μ-loop returns loop-holds (λ c. search needs) (λ c. search needs) put-word-requires
     (λ c. search needs) (λ c. search needs) loop-again same-length returns-2)

@@ -32,6 +32,5 @@ returns-2 c = record { sound = λ h. c .settings-in .ensures; unsound = λ n. ab
 
 pub settings-of-spec : {M : Type 1} → statement M
 settings-of-spec =
-    tie.close
-    (tie.spec (λ c κs. search needs) (λ c κs. search needs) (λ c κs. search needs) returns settings-in-requires
-    returns-2)
+    tie.close (tie.spec (λ c κs. search needs) (λ c κs. search needs) (λ c κs. search needs) returns
+    settings-in-requires returns-2)

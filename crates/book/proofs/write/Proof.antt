@@ -66,6 +66,5 @@ returns-3 c =
 
 pub write-spec : {M : Type 1} → statement M
 write-spec =
-    tie.close
-    (tie.spec (λ c κs. search needs) returns (λ c κs. search needs) blocks-for-requires (λ c. search needs)
+    tie.close (tie.spec (λ c κs. search needs) returns (λ c κs. search needs) blocks-for-requires (λ c. search needs)
     cast-t9 returns-2 fill-requires cast-t13 (λ c. search needs) returns-3)

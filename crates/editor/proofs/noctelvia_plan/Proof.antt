@@ -83,7 +83,6 @@ returns-2 c =
 
 pub noctelvia-plan-spec : {M : Type 1} → statement M
 noctelvia-plan-spec =
-    tie.close
-    (tie.spec (λ c. search needs) (λ c κs. search needs) (λ c κs. search needs) (λ c κs. search needs) returns
-    (λ c κs. search needs) (λ c. search needs) (λ c. search needs) array-share-prefix-list
+    tie.close (tie.spec (λ c. search needs) (λ c κs. search needs) (λ c κs. search needs) (λ c κs. search needs)
+    returns (λ c κs. search needs) (λ c. search needs) (λ c. search needs) array-share-prefix-list
     slice-aggregate-plan-bytes plan-bytes-requires (λ c κs. search needs) (λ c. search needs) returns-2)

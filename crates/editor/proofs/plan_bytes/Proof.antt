@@ -47,8 +47,7 @@ returns-4 c =
 
 pub plan-bytes-spec : {M : Type 1} → statement M
 plan-bytes-spec =
-    tie.close
-    (tie.spec (λ c κs. search needs) returns (λ c κs. search needs) (λ c. search needs) (λ c. search needs)
+    tie.close (tie.spec (λ c κs. search needs) returns (λ c κs. search needs) (λ c. search needs) (λ c. search needs)
     (λ c. search needs) (λ c. search needs) returns-2 (λ c. search needs) (λ c. search needs) (λ c κs. search needs)
     (λ c κs. search needs) returns-3 (λ c. search needs) slice-aggregate-put-words (λ c κs. search needs)
     (λ c. search needs) returns-4)

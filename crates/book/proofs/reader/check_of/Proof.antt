@@ -40,6 +40,5 @@ returns c =
 
 pub check-of-spec : {M : Type 1} → statement M
 check-of-spec =
-    tie.close
-    (tie.spec Inv-loop μ-loop loop-holds (λ c κs. search needs) (λ c κs. search needs) (λ c. search needs)
+    tie.close (tie.spec Inv-loop μ-loop loop-holds (λ c κs. search needs) (λ c κs. search needs) (λ c. search needs)
     (λ c. search needs) loop-again returns)

@@ -39,6 +39,5 @@ returns-4 c =
 
 pub has-signal-spec : {M : Type 1} → statement M
 has-signal-spec =
-    tie.close
-    (tie.spec (λ c κs. search needs) (λ c κs. search needs) returns (λ c. search needs) (λ c κs. search needs)
-    returns-3 returns-4)
+    tie.close (tie.spec (λ c κs. search needs) (λ c κs. search needs) returns (λ c. search needs)
+    (λ c κs. search needs) returns-3 returns-4)

@@ -77,7 +77,6 @@ returns-6 c =
 
 pub judge-spec : {M : Type 1} → statement M
 judge-spec =
-    tie.close
-    (tie.spec (λ c κs. search needs) returns (λ c κs. whole c) (λ c. search needs) returns-2
-    (λ c κs. checks c .0) (λ c. search needs) returns-3 (λ c κs. kinds c .0 .0) returns-4
-    (λ c κs. counts c .0 .0 .0) (λ c. search needs) returns-5 in-block-requires returns-6)
+    tie.close (tie.spec (λ c κs. search needs) returns (λ c κs. whole c) (λ c. search needs) returns-2
+    (λ c κs. checks c .0) (λ c. search needs) returns-3 (λ c κs. kinds c .0 .0) returns-4 (λ c κs. counts c .0 .0 .0)
+    (λ c. search needs) returns-5 in-block-requires returns-6)

@@ -20,6 +20,4 @@ returns-2 c =
     ∙ later (λ (k : ℕ). 3 + signalSize * signalsIn m k ≡ usedIn m k) (λ k. refl) _ (c .before .if1 .left)
 
 pub used-in-spec : {M : Type 1} → statement M
-used-in-spec =
-    tie.close
-    (tie.spec returns (λ c κs. search needs) (λ c. search needs) (λ c. search needs) returns-2)
+used-in-spec = tie.close (tie.spec returns (λ c κs. search needs) (λ c. search needs) (λ c. search needs) returns-2)

@@ -41,6 +41,5 @@ returns-2 c = λ w u h. c .before .loop .inv .1 w (omega arith) u
 
 pub zeros-spec : {M : Type 1} → statement M
 zeros-spec =
-    tie.close
-    (tie.spec Inv-loop μ-loop (λ c κs. search needs) (λ c. search needs) (λ c κs. search needs) loop-holds
+    tie.close (tie.spec Inv-loop μ-loop (λ c κs. search needs) (λ c. search needs) (λ c κs. search needs) loop-holds
     (λ c κs. search needs) returns (λ c. search needs) (λ c. search needs) loop-again returns-2)

@@ -44,7 +44,6 @@ returns-4 c = listed _ _ _ (omega arith) (omega arith)
 
 pub signal-word-spec : {M : Type 1} → statement M
 signal-word-spec =
-    tie.close
-    (tie.spec (λ c κs. search needs) (λ c κs. search needs) (λ c. search needs) returns (λ c. search needs)
+    tie.close (tie.spec (λ c κs. search needs) (λ c κs. search needs) (λ c. search needs) returns (λ c. search needs)
     returns-2 (λ c. search needs) (λ c. search needs) (λ c. search needs) returns-3 (λ c. search needs)
     (λ c. search needs) returns-4)

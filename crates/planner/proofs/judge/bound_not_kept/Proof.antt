@@ -73,7 +73,6 @@ returns-2 c =
 
 pub bound-not-kept-spec : {M : Type 1} → statement M
 bound-not-kept-spec =
-    tie.close
-    (tie.spec Inv-loop μ-loop loop-holds (λ c κs. search needs) (λ c κs. search needs) (λ c. omega arith)
+    tie.close (tie.spec Inv-loop μ-loop loop-holds (λ c κs. search needs) (λ c κs. search needs) (λ c. omega arith)
     returns (λ c. omega arith) (λ c. omega arith) (λ c. omega arith) (λ c. omega arith) add-i (λ c. omega arith)
     loop-again (λ c. omega arith) returns-2)

@@ -48,6 +48,5 @@ returns-2 c =
 
 pub field-out-of-range-spec : {M : Type 1} → statement M
 field-out-of-range-spec =
-    tie.close
-    (tie.spec Inv-loop μ-loop loop-holds (λ c κs. search needs) (λ c κs. search needs) returns add-i
+    tie.close (tie.spec Inv-loop μ-loop loop-holds (λ c κs. search needs) (λ c κs. search needs) returns add-i
     (λ c. omega arith) loop-again returns-2)

@@ -68,7 +68,6 @@ returns-4 c =
 
 pub judge-spec : {M : Type 1} → statement M
 judge-spec =
-    tie.close
-    (tie.spec (λ c κs. search needs) (λ c κs. search needs) returns (λ c κs. search needs) cast-m
-    field-out-of-range-requires returns-2 bound-not-kept-requires (λ c. search needs) returns-3
-    (λ c. search needs) returns-4)
+    tie.close (tie.spec (λ c κs. search needs) (λ c κs. search needs) returns (λ c κs. search needs) cast-m
+    field-out-of-range-requires returns-2 bound-not-kept-requires (λ c. search needs) returns-3 (λ c. search needs)
+    returns-4)

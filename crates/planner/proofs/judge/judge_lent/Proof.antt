@@ -61,7 +61,5 @@ returns-5 c =
 
 pub judge-lent-spec : {M : Type 1} → statement M
 judge-lent-spec =
-    tie.close
-    (tie.spec (λ c κs. search needs) returns (λ c κs. search needs) returns-2 (λ c. search needs)
-    (λ c. search needs) cast-t11 returns-3 (λ c κs. search needs) (λ c. search needs) cast-t12 returns-4
-    returns-5)
+    tie.close (tie.spec (λ c κs. search needs) returns (λ c κs. search needs) returns-2 (λ c. search needs)
+    (λ c. search needs) cast-t11 returns-3 (λ c κs. search needs) (λ c. search needs) cast-t12 returns-4 returns-5)

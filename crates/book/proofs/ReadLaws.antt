@@ -10,8 +10,7 @@ use native.Mathlib.Omega.{arith}
 use lib.ListN.{length, take, drop}
 use lib.Seq.{take-at}
 use Rattle.laws.specs.Rows.{Row, Hold}
-use Rattle.laws.proofs.RowLaws.{hold-join, hold-front, zero-holds, holds-zero}
-use Rattle.laws.proofs.RowLaws.{pass, refused-front, same-front}
+use Rattle.laws.proofs.RowLaws.{hold-join, hold-front, zero-holds, holds-zero, pass, refused-front, same-front}
 use Rattle.terms.specs.declared.Settings.{Settings}
 use Rattle.terms.specs.declared.Answer.the-variants.{Room}
 use Rattle.terms.specs.Lists.{signalSize}

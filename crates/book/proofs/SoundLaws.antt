@@ -48,9 +48,7 @@ module _ (b : List ℕ) (sound : Hold (bookRows b)) where
 -- ---- what an answer tells
 
 first-one : (b : List ℕ) (P : ℕ → Type 0) (p q : ℕ) → FirstBlock b P p → FirstBlock b P q → p ≡ q
-first-one b P p q k l =
-    let same = lowest-one (blocksIn b) (λ i. P (i - 1)) (p + 1) (q + 1) k l in
-    omega arith
+first-one b P p q k l = let same = lowest-one (blocksIn b) (λ i. P (i - 1)) (p + 1) (q + 1) k l in omega arith
 
 pub book-numbered : (b : List ℕ) → Numbered (bookRows b)
 book-numbered b = (lit≤ tt, (lit≤ tt, (lit≤ tt, (lit≤ tt, (lit≤ tt, tt)))))

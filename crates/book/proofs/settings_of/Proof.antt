@@ -23,9 +23,7 @@ book-sound c =
     (omega (arith, c .before .number .ensures)) .0
 
 settings-in-requires : tie.Need-settings-in-requires
-settings-in-requires c κs =
-    let right = sound-length _ (book-sound c) in
-    omega (arith, right .some, right .whole)
+settings-in-requires c κs = let right = sound-length _ (book-sound c) in omega (arith, right .some, right .whole)
 
 returns-2 : tie.Need-returns-2
 returns-2 c = record { sound = λ h. c .settings-in .ensures; unsound = λ n. absurd (n (book-sound (c .before))) }

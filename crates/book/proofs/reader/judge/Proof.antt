@@ -65,9 +65,7 @@ returns-5 c =
     inr (l, inr (k, inr (n, inr (m, inl (first .0, refl, first .1)))))
 
 in-block-requires : tie.Need-in-block-requires
-in-block-requires c κs =
-    let right = counts (c .before .before) .0 .0 .0 in
-    omega (arith, right .some, right .whole)
+in-block-requires c κs = let right = counts (c .before .before) .0 .0 .0 in omega (arith, right .some, right .whole)
 
 returns-6 : tie.Need-returns-6
 returns-6 c =

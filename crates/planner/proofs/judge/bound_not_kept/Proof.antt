@@ -67,9 +67,7 @@ loop-again c =
     )
 
 returns-2 : tie.Need-returns-2 Inv-loop μ-loop
-returns-2 c =
-    let l = c .before in
-    found-all (l .loop .inv .0) (omega (arith, Begin l .pre .count .counted))
+returns-2 c = let l = c .before in found-all (l .loop .inv .0) (omega (arith, Begin l .pre .count .counted))
 
 pub bound-not-kept-spec : {M : Type 1} → statement M
 bound-not-kept-spec =

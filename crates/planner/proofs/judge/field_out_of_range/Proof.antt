@@ -30,9 +30,7 @@ returns c =
     stops _ _ (l .loop .i) (l .loop .inv) (omega (arith, Begin l .pre .counted)) not
 
 add-i : tie.Need-add-i Inv-loop μ-loop
-add-i c =
-    let l = c .before .before .before .before in
-    omega (arith, Begin l .pre .right .few, Begin l .pre .counted)
+add-i c = let l = c .before .before .before .before in omega (arith, Begin l .pre .right .few, Begin l .pre .counted)
 
 loop-again : tie.Need-loop-again Inv-loop μ-loop
 loop-again c =
@@ -42,9 +40,7 @@ loop-again c =
     reached-next _ _ (l .loop .i) (l .loop .inv) (omega (arith, Begin l .pre .counted)) here
 
 returns-2 : tie.Need-returns-2 Inv-loop μ-loop
-returns-2 c =
-    let l = c .before in
-    none-without _ _ (l .loop .i) (l .loop .inv) (omega (arith, Begin l .pre .counted))
+returns-2 c = let l = c .before in none-without _ _ (l .loop .i) (l .loop .inv) (omega (arith, Begin l .pre .counted))
 
 pub field-out-of-range-spec : {M : Type 1} → statement M
 field-out-of-range-spec =

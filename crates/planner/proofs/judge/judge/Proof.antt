@@ -32,8 +32,7 @@ signals : (e : tie.Else2) → EachSignal (asked (e .before .before .before .befo
 signals e = none-each _ _ (e .before .field-out-of-range .result) (e .before .field-out-of-range .ensures) (e .if2 .left)
 
 returns : tie.Need-returns
-returns c =
-    judged-lent (c .before .before .judge-lent .ensures) (λ z. c .if1 .taken (c .before .number .ensures ∙ z))
+returns c = judged-lent (c .before .before .judge-lent .ensures) (λ z. c .if1 .taken (c .before .number .ensures ∙ z))
 
 cast-m : tie.Need-cast-m
 cast-m c = omega (arith, lent (c .before) .1 .0 .few, c .count .ensures)

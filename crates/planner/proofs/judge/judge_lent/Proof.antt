@@ -38,14 +38,10 @@ cast-t11 : tie.Need-cast-t11
 cast-t11 c = let few = settings (c .before .before .before .before) in omega arith
 
 returns-3 : tie.Need-returns-3
-returns-3 c =
-    let e = c .before .before in
-    inr (settings (e .before .before), inr (counted e, inl (omega arith)))
+returns-3 c = let e = c .before .before in inr (settings (e .before .before), inr (counted e, inl (omega arith)))
 
 cast-t12 : tie.Need-cast-t12
-cast-t12 c =
-    let a = c .before in
-    omega (arith, counted (a .before .before .before) .few, a .count .ensures)
+cast-t12 c = let a = c .before in omega (arith, counted (a .before .before .before) .few, a .count .ensures)
 
 returns-4 : tie.Need-returns-4
 returns-4 c =

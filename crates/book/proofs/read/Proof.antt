@@ -1,18 +1,12 @@
 -- `book::read` meets its contract: a refusal gives five zeros and touches nothing; a sound book with room is given
 -- whole. Past the refusals 1 to 5 it has at most 600 signals in its own blocks, so the words that are copied lie in it.
 -- Assumes nothing.
-use mathlib.Core.Path.{_≡_, ap, _∙_}
-use mathlib.Core.List.{_++_}
-use Prim.Native.Nat.{ℕ, _*_}
+use mathlib.Core.Path.{_≡_}
 use native.Mathlib.Omega.{arith}
-use lib.ListN.{drop}
 use borrow.Author.Needs.{needs}
 use Rattle.laws.specs.Rows.{Hold}
-use Rattle.terms.specs.declared.Answer.the-variants.{Room}
-use Rattle.terms.specs.Lists.{signalSize}
 use Rattle.terms.specs.Answers.{placeOf}
-use Rattle.book.specs.Words.{upTo}
-use Rattle.book.specs.Reading.{signalsOf, bookRows, listWord, listIn}
+use Rattle.book.specs.Reading.{signalsOf, bookRows, listIn}
 use Rattle.book.proofs.SoundLaws.{sound-length, sound-count, judged-sound}
 use Rattle.book.proofs.ReadLaws.{read-refused, read-short, read-done}
 use Rattle.book.proofs.read.Statement.{statement}
@@ -44,8 +38,7 @@ returns-2 : tie.Need-returns-2
 returns-2 c =
     let place = c .before .before in
     let (sound, signals) = judged (place .before) in
-    let words = ap (λ (n : ℕ). Room (signalSize * n)) (place .place .ensures ∙ signals) in
-    read-short sound (omega (arith, place .place .ensures)) words (c .no-settings2 .ensures)
+    read-short sound (omega (arith, place .place .ensures)) (rw (place .place .ensures, signals)) (c .no-settings2 .ensures)
 
 copy-list-requires : tie.Need-copy-list-requires
 copy-list-requires c κs =
@@ -63,14 +56,10 @@ unfolding listIn
 returns-3 c =
     let copied = c .before .before .before in
     let place = copied .before .before .before in
-    let book = begin (place .before) .args .book .now in
-    let list = begin (place .before) .args .list .now in
     let (sound, signals) = judged (place .before) in
+    let list = rw (place .place .ensures, signals) at (copied .copy-list .ensures) in
     read-done sound (omega (arith, place .place .ensures)) (omega (arith, place .before .before .number .ensures))
-    signals (c .settings-in .ensures)
-    (copied .copy-list .ensures
-    ∙ ap (λ (n : ℕ). upTo (listWord book) (signalSize * n) ++ drop (signalSize * n) list)
-    (place .place .ensures ∙ signals))
+    signals (c .settings-in .ensures) list
 
 pub read-spec : {M : Type 1} → statement M
 read-spec =

@@ -1,15 +1,12 @@
 -- `book::write` meets its contract: the refusals 4 and 10 come before the first store; else the room holds the book.
 -- Assumes nothing.
 use mathlib.Core.Path.{_≡_, ap, _∙_}
-use mathlib.Core.List.{_++_}
 use Prim.Native.Nat.{ℕ, _*_, _≤_}
 use native.Mathlib.Omega.{arith}
-use lib.ListN.{drop}
 use borrow.Author.Needs.{needs}
 use Rattle.laws.proofs.SaysLaws.{granted, refused}
 use Rattle.terms.specs.Lists.{count, CountInRange}
-use Rattle.book.specs.Words.{bytesOver}
-use Rattle.book.specs.Blocks.{blocksFor, bookWord, bookOf}
+use Rattle.book.specs.Blocks.{blocksFor, bookOf}
 use Rattle.book.proofs.WriteLaws.{write-refused, write-short, write-done}
 use Rattle.book.proofs.write.Statement.{statement}
 use Rattle.book.proofs.write.Tie as tie
@@ -55,14 +52,10 @@ unfolding bookOf
 returns-3 c =
     let call = c .before .before in
     let made = call .before .before .before in
-    let args = begin (made .before .before) .args in
-    let blocks = own-blocks made in
-    let n = blocksFor (count (args .list .now)) in
+    let n = blocksFor (count (begin (made .before .before) .args .list .now)) in
     let end : 4 * (128 * n) ≡ 512 * n = omega arith in
-    write-done _ _ _ (in-range (made .before .before)) _ blocks (omega arith)
-    (call .fill .ensures
-    ∙ ap (λ (n : ℕ). bytesOver (bookWord (args .s) (args .list .now)) (128 * n) (args .room .now)) blocks
-    ∙ ap (λ (n : ℕ). bookOf (args .s) (args .list .now) ++ drop n (args .room .now)) end)
+    let book = rw (own-blocks made, end) at (call .fill .ensures) in
+    write-done _ _ _ (in-range (made .before .before)) _ (own-blocks made) (omega arith) book
 
 pub write-spec : {M : Type 1} → statement M
 write-spec =

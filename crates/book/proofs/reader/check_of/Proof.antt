@@ -1,8 +1,8 @@
 -- `book::reader::check_of` meets its contract. The loop's invariant: the sum, from 1 on and kept to 32 bits, is that of
 -- the words passed.
 -- Assumes nothing.
-use mathlib.Core.Path.{_≡_, ap, _∙_}
-use Prim.Native.Nat.{ℕ, _+_, _-_, _%_, _^_, _≤_}
+use mathlib.Core.Path.{_≡_, _∙_}
+use Prim.Native.Nat.{_+_, _-_, _%_, _^_, _≤_}
 use native.Mathlib.Omega.{arith}
 use borrow.Author.Needs.{needs}
 use Rattle.laws.specs.Sums.{sum}
@@ -33,10 +33,9 @@ loop-again c =
 returns : tie.Need-returns Inv-loop μ-loop
 unfolding checkOf
 returns c =
-    let start = c .before .before .before .args in
     let head = c .before .loop in
     let past : head .w ≡ 127 = omega arith in
-    head .inv .1 ∙ ap (λ (n : ℕ). (sum (inBlock (start .book .now) (start .k)) n + 1) % 2 ^ 32) past
+    rw past at (head .inv .1)
 
 pub check-of-spec : {M : Type 1} → statement M
 check-of-spec =

@@ -1,13 +1,10 @@
 -- `book::reader::copy_list` meets its contract. The loop's invariant: the first i words are the book's, and what lies
 -- behind is as it was.
 -- Assumes nothing.
-use mathlib.Core.Path.{_≡_, refl, ap, _∙_}
-use mathlib.Core.List.{_++_}
-use Prim.Native.Nat.{ℕ, _-_, _≤_}
+use mathlib.Core.Path.{_≡_, refl}
+use Prim.Native.Nat.{_-_, _≤_}
 use native.Mathlib.Omega.{arith}
-use lib.ListN.{drop}
 use borrow.Author.Needs.{needs}
-use Rattle.book.specs.Words.{upTo}
 use Rattle.book.specs.Reading.{listWord}
 use Rattle.book.proofs.UpToLaws.{Over, over-none, over-one}
 use Rattle.book.proofs.reader.copy_list.Statement.{statement}
@@ -30,10 +27,9 @@ loop-again c =
 
 returns : tie.Need-returns Inv-loop μ-loop
 returns c =
-    let start = c .before .before .before .before .args in
     let head = c .before .loop in
-    let past : head .i ≡ start .n = omega arith in
-    head .inv .1 .written ∙ ap (λ (k : ℕ). upTo (listWord (start .book .now)) k ++ drop k (start .list .now)) past
+    let past : head .i ≡ c .before .before .before .before .args .n = omega arith in
+    rw past at (head .inv .1 .written)
 
 pub copy-list-spec : {M : Type 1} → statement M
 copy-list-spec =

@@ -1,7 +1,7 @@
 -- `book::reader::zeros` meets its contract. The loop's invariant: the word looked at is past the block's own, and every
 -- one between them is zero.
 -- Assumes nothing.
-use mathlib.Core.Path.{_≡_, sym, ap, _∙_}
+use mathlib.Core.Path.{_≡_, sym, _∙_}
 use Prim.Native.Nat.{ℕ, _-_, _≤_, _<_}
 use native.Mathlib.Nat.{le-of-eq}
 use native.Mathlib.Omega.{arith}
@@ -20,11 +20,8 @@ abbrev μ-loop : tie.MeasureT-loop
 
 loop-holds : tie.Need-loop-holds Inv-loop μ-loop
 loop-holds c =
-    let start = c .before .before .before .args in
-    let used : usedIn (signalsOf (start .book .now)) (start .k) ≡ c .used-in .result =
-    ap (λ (m : ℕ). usedIn m (start .k)) (sym (c .before .in-block .ensures)) ∙ sym (c .used-in .ensures)
-    in
-    (le-of-eq used, λ i h u. absurd (omega arith))
+    let used = rw (c .before .in-block .ensures) at (c .used-in .ensures) in
+    (le-of-eq (sym used), λ i h u. absurd (omega arith))
 
 returns : tie.Need-returns Inv-loop μ-loop
 returns c =

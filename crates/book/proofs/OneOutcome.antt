@@ -1,6 +1,6 @@
 -- Two outcomes that a public routine's contract allows are equal, one theorem a routine.
 -- Assumes nothing.
-use mathlib.Core.Path.{_≡_, sym, ap, _∙_}
+use mathlib.Core.Path.{_≡_, sym, _∙_}
 use mathlib.Core.List.{List}
 use mathlib.Core.Logic.{⊎-elim, dite}
 use Prim.Native.Nat.{ℕ}
@@ -33,9 +33,10 @@ pub read-one : {book lent : List ℕ} {r r′ : Reading} {exit exit′ : List �
 read-one {book} {lent} {r} {r′} x y =
     let answer = answers-unique (readingRows book (length lent)) (λ p. p ≡ signalsOf book) (λ p q. same)
     (reading-single book (length lent)) (r .answer) (r′ .answer) (x .answer) (y .answer) in
-    let number = ap numberOf answer in
-    let rest = dite (ℕ-discrete (numberOf (r .answer)) 0) (λ z. both (x .done z) (y .done (sym number ∙ z)))
-    (λ n. both (x .refused n) (y .refused (λ z. n (number ∙ z)))) in
+    let done = rw (← answer) at (y .done) in
+    let refused = rw (← answer) at (y .refused) in
+    let rest = dite (ℕ-discrete (numberOf (r .answer)) 0) (λ z. both (x .done z) (done z))
+    (λ n. both (x .refused n) (refused n)) in
     (λ i. record { answer = answer i; settings = rest .0 i }, rest .1)
 
 pub settings-of-one : {book : List ℕ} {s t : Settings} → SettingsOutcome book s → SettingsOutcome book t → s ≡ t
@@ -47,11 +48,9 @@ pub write-one : {s : Settings} {list lent : List ℕ} {r r′ : Answer} {exit ex
 write-one {list = list} {lent} {r} {r′} x y =
     let answer = answers-unique (writingRows list (length lent)) (λ p. p ≡ blocksFor (count list)) (λ p q. same)
     ((λ p q. same), ((λ p q. same), tt)) r r′ (x .answer) (y .answer) in
-    let number = ap numberOf answer in (
-      answer,
-      dite (ℕ-discrete (numberOf r) 0) (λ z. same (x .done z) (y .done (sym number ∙ z)))
-          (λ n. same (x .refused n) (y .refused (λ z. n (number ∙ z)))),
-    )
+    let y = rw (← answer) at y in
+    let zero = ℕ-discrete (numberOf r) 0 in
+    (answer, dite zero (λ z. same (x .done z) (y .done z)) (λ n. same (x .refused n) (y .refused n)))
 
 pub part-one : {book : List ℕ} {place : ℕ × ℕ} {i : ℕ} {r r′ : List ℕ} {start start′ : ℕ × ℕ}
     → PartOutcome book place i r start → PartOutcome book place i r′ start′ → (r ≡ r′) × (start ≡ start′)

@@ -1,9 +1,9 @@
 -- The book of given values, read: each of its words is the one that was meant, it is sound, and gives the values back.
 -- Assumes nothing.
-use mathlib.Core.Path.{_≡_, refl, sym, ap, _∙_, subst}
+use mathlib.Core.Path.{_≡_, refl, sym, ap, _∙_}
 use mathlib.Core.List.{List, _∷_}
 use mathlib.Core.Logic.{dite}
-use Prim.Native.Nat.{ℕ, zero, suc, _+_, _-_, _*_, _/_, _%_, _^_, _≤_, _<_}
+use Prim.Native.Nat.{ℕ, zero, suc, _+_, _-_, _*_, _/_, _%_, _^_, _<_}
 use native.Mathlib.Decide.{decLt}
 use native.Mathlib.Omega.{arith}
 use lib.Dec.{lit<}
@@ -12,10 +12,10 @@ use lib.Seq.{getD-take, getD-drop}
 use Rattle.laws.specs.Rows.{Hold}
 use Rattle.terms.specs.declared.Settings.{Settings}
 use Rattle.terms.specs.Lists.{signalSize, count, CountInRange}
-use Rattle.book.specs.Words.{AllBelow, upTo, wordAt, checkOf}
+use Rattle.book.specs.Words.{AllBelow, wordAt, checkOf}
 use Rattle.book.specs.Blocks.{AreWords, sectionSize, signalsIn, blocksFor, settingsWords, signalWords}
 use Rattle.book.specs.Blocks.{bodyWord, blockWord, bookWord, bookOf}
-use Rattle.book.specs.Reading.{blocksIn, inBlock, signalsOf, usedIn, bookRows, settingsIn, listWord, listIn}
+use Rattle.book.specs.Reading.{blocksIn, inBlock, signalsOf, bookRows, settingsIn, listWord, listIn}
 use Rattle.book.specs.Reading.{LengthRight, CheckRight, KindRight, CountRight, ZerosRight}
 use Rattle.book.proofs.UpToLaws.{upTo-is, check-same}
 use Rattle.book.proofs.WordLaws.{all-below, word-of-bytes, bytes-length}
@@ -91,8 +91,7 @@ module _ (s : Settings) (l : List ℕ) (settings : AreWords s) (fit : AllBelow (
   written-share (suc k) h = written-body (suc k) h 2 (lit< tt) ∙ ap (λ (m : ℕ). signalsIn m (suc k)) (sym written-count)
 
   written-zeros : (k : ℕ) → k < blocksIn (bookOf s l) → ZerosRight (bookOf s l) k
-  written-zeros k h w used v =
-      written-body k h w v ∙ body-zero s l right k w (subst (λ (m : ℕ). usedIn m k ≤ w) written-count used)
+  written-zeros k h w used v = written-body k h w v ∙ body-zero s l right k w (rw written-count at used)
 
   -- the book of given values is sound
   pub written-sound : Hold (bookRows (bookOf s l))
@@ -126,5 +125,4 @@ module _ (s : Settings) (l : List ℕ) (settings : AreWords s) (fit : AllBelow (
   unfolding listIn
   written-list =
       let count : signalSize * signalsOf (bookOf s l) ≡ length l = omega (arith, written-count, right .whole) in
-      ap (upTo (listWord (bookOf s l))) count
-      ∙ sym (upTo-is (listWord (bookOf s l)) (length l) l refl (λ i h. sym (written-listed i h)))
+      rw count (sym (upTo-is (listWord (bookOf s l)) (length l) l refl (λ i h. sym (written-listed i h))))

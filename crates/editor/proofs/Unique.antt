@@ -105,11 +105,10 @@ module _ {book lent : List ℕ} where
   book-planned-unique {a} {b} p q =
       let same =
       answers-unique (editorRows book (length lent)) (Needed (settingsIn book) (listIn book)) (needed-one (settingsIn book) (listIn book))
-      (editor-single book (length lent)) a b (p .answer) (q .answer) in (
-        same,
-        dite (ℕ-discrete (numberOf a) 0) (λ z. bytes-one (p .done z) (q .done (sym (ap numberOf same) ∙ z))) (λ n.
-            p .refused n ∙ sym (q .refused (λ z. n (ap numberOf same ∙ z)))),
-      )
+      (editor-single book (length lent)) a b (p .answer) (q .answer) in
+      let q = rw (← same) at q in
+      let zero = ℕ-discrete (numberOf a) 0 in
+      (same, dite zero (λ z. bytes-one (p .done z) (q .done z)) (λ n. p .refused n ∙ sym (q .refused n)))
 
   pub book-answered-unique : {q r : ℕ} {exit exit′ : List ℕ} → BookAnswered book lent q exit → BookAnswered book lent r exit′
       → (q ≡ r) × (exit ≡ exit′)

@@ -1,6 +1,6 @@
 -- The rows of planning: their numbers are not 0 and each has one place; so two outcomes that the contract allows are equal.
 -- Assumes nothing.
-use mathlib.Core.Path.{_≡_, _∙_, sym, ap}
+use mathlib.Core.Path.{_≡_, _∙_, sym}
 use mathlib.Core.List.{List}
 use mathlib.Core.Logic.{dite}
 use Prim.Native.Nat.{ℕ}
@@ -43,11 +43,10 @@ module _ (x : Request) (l : PlanRoom) where
   planned-unique {a} {b} p q =
       let same =
       answers-unique (planningRows x l) (Needed (x .settings) (x .list)) (needed-one (x .settings) (x .list)) planning-single a b (p .answer)
-      (q .answer) in (
-        same,
-        dite (ℕ-discrete (numberOf a) 0) (λ z. both (p .done z) (q .done (sym (ap numberOf same) ∙ z))) (λ n.
-            p .refused n ∙ sym (q .refused (λ z. n (ap numberOf same ∙ z)))),
-      )
+      (q .answer) in
+      let q = rw (← same) at q in
+      let zero = ℕ-discrete (numberOf a) 0 in
+      (same, dite zero (λ z. both (p .done z) (q .done z)) (λ n. p .refused n ∙ sym (q .refused n)))
     where
       both : {e f : PlanRoom} → PlanShown x l e → PlanShown x l f → e ≡ f
       both p q =

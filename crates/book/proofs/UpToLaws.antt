@@ -50,9 +50,9 @@ over-none f lent = record { written = refl; as-long = refl }
 pub over-one : {f : ℕ → ℕ} {lent room : List ℕ} (n m x : ℕ) → Over f lent room n → n < length lent → x ≡ f n
     → m ≡ n + 1 → Over f lent (set room n x) m
 unfolding upTo
-over-one {f} {lent} {room} n m x o h value e =
+over-one {f} {lent} {room} n m x o h is e =
     record {
-      written = rw (e, add-one, o .written, drop-cons lent n 0, set-at _ _ _ _ n (upTo-length f n), value, append-snoc);
+      written = rw (e, add-one, o .written, drop-cons lent n 0, set-at _ _ _ _ n (upTo-length f n), is, append-snoc);
       as-long = length-set room n x ∙ o .as-long;
     }
 

@@ -40,7 +40,8 @@ module _ (book lent : List ℕ) where
 
   -- the words of a plan that is shown, as bytes
   pub shown-bytes : Hold (bytesRows s list (length lent)) → (blank room : PlanRoom)
-      → PlanShown (request s list) blank room → BytesShown book lent (bytesOver (λ p. getD (take n (room .results)) p 0) n lent)
+      → PlanShown (request s list) blank room
+      → BytesShown book lent (bytesOver (λ p. getD (take n (room .results)) p 0) n lent)
   shown-bytes (settings, (fits, (signals, (kept, (slots, u))))) blank room shown =
       record {
         R = shown .R;

@@ -31,8 +31,8 @@ pub record FoundIn (s : Settings) (list words : List ℕ) (j : ℕ) : Type 0 whe
 
 module _ {s : Settings} {list words : List ℕ} {i : ℕ} (f : Reached (count list) (FoundIn s list words) i) where
   -- a repetition put at the next place leaves those before it, and is found there
-  pub found-next : {r : ℕ} → i - 1 < length words → i ≤ count list → Largest (Keeps s (signalAt list i) (segment s)) r → 1 ≤ r
-      → Reached (count list) (FoundIn s list (set words (i - 1) r)) (i + 1)
+  pub found-next : {r : ℕ} → i - 1 < length words → i ≤ count list → Largest (Keeps s (signalAt list i) (segment s)) r
+      → 1 ≤ r → Reached (count list) (FoundIn s list (set words (i - 1) r)) (i + 1)
   found-next {r} h l g k =
       reached-next (count list) (FoundIn s list (set words (i - 1) r)) i
       (record { first = f .first; last = f .last; passed = λ j a b. moved j a b (f .passed j a b) }) l
@@ -78,13 +78,13 @@ module _ {s : Settings} {list words : List ℕ} {i : ℕ} (f : Reached (count li
 abbrev signalsAsked : Request → List Row
 signalsAsked x = fieldRow (x .settings) (x .list) ∷ boundRow (x .settings) (x .list) ∷ []
 
-lent-numbered : (x : Request) (cells results : ℕ) → Numbered (lentRows x cells results)
-lent-numbered x cells results = omega arith
+numbered : (x : Request) (cells results : ℕ) → Numbered (lentRows x cells results)
+numbered x cells results = omega arith
 
 pub lent-holds : (x : Request) (cells results : ℕ) (a : Answer) → Answers (lentRows x cells results) (λ p. p ≡ 0) a
     → numberOf a ≡ 0 → Hold (lentRows x cells results)
 lent-holds x cells results a f e =
-    zero-holds (λ p. p ≡ 0) _ _ (lentRows x cells results) (lent-numbered x cells results) f e .0
+    zero-holds (λ p. p ≡ 0) _ _ (lentRows x cells results) (numbered x cells results) f e .0
 
 module _ {x : Request} {cells results : ℕ} {words : List ℕ} where
   -- a refusal of what is lent
@@ -92,24 +92,25 @@ module _ {x : Request} {cells results : ℕ} {words : List ℕ} where
       → Judged x cells results a words
   judged-lent f n =
       let rows = lentRows x cells results in
-      let asked = refused-front (signalsAsked x) (λ p. p ≡ 0) _ _ rows (λ p. p ≡ 0) (lent-numbered x cells results) n f in
+      let asked = refused-front (signalsAsked x) (λ p. p ≡ 0) _ _ rows (λ p. p ≡ 0) (numbered x cells results) n f in
       record { answer = asked; found = λ e. absurd (n e) }
 
-  module _ (h : Hold (lentRows x cells results)) where
-    pub judged-7 : {r : ℕ} → LowestOrNone (count (x .list)) (λ i. SignalInRange (x .settings) (signalAt (x .list) i)) r
+  module _ (h : Hold (lentRows x cells results)) {r : ℕ} where
+    pub judged-7 : LowestOrNone (count (x .list)) (λ i. SignalInRange (x .settings) (signalAt (x .list) i)) r
         → (r ≡ 0 → ⊥) → Judged x cells results (Field r) words
-    judged-7 {r} l n =
+    judged-7 l n =
         let low = some-lowest _ (λ i. SignalInRange (x .settings) (signalAt (x .list) i)) r l n in
         let asked = pass (signalsAsked x) (λ p. p ≡ 0) 7 r (lentRows x cells results) h in
         record { answer = asked (inl (lowest-not-each _ _ r low, refl, low)); found = λ e. absurd (omega arith) }
 
-    module _ (signals : EachSignal (x .list) (SignalInRange (x .settings))) {r : ℕ}
+    module _ (signals : EachSignal (x .list) (SignalInRange (x .settings)))
         (f : RepetitionsFound (x .settings) (x .list) r words) where
       pub judged-8 : (r ≡ 0 → ⊥) → Judged x cells results (Bound r) words
       judged-8 n =
           let low = some-lowest _ (λ i. Kept (x .settings) (signalAt (x .list) i)) r (f .lowest) n in
           let asked = pass (signalsAsked x) (λ p. p ≡ 0) 8 r (lentRows x cells results) h in
-          record { answer = asked (inr (signals, inl (lowest-not-each _ _ r low, refl, low))); found = λ e. absurd (omega arith) }
+          let not-each = lowest-not-each _ _ r low in
+          record { answer = asked (inr (signals, inl (not-each, refl, low))); found = λ e. absurd (omega arith) }
 
       pub judged-done : r ≡ 0 → Judged x cells results (Done 0) words
       judged-done e =

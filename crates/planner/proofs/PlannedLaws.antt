@@ -43,10 +43,10 @@ module _ (s : Settings) (list : List ℕ) (R : ℕ → ℕ) (r : Repetitions s l
     needed-same = slots-same (groupOf list) R Q (count list) repetitions-same groups
 
 -- the rows that were judged
-abbrev judgedIn : Request → PlanRoom → List Row
-judgedIn x lent = judgedRows x (length (lent .cells)) (length (lent .results))
+abbrev judged : Request → PlanRoom → List Row
+judged x lent = judgedRows x (length (lent .cells)) (length (lent .results))
 
-numbered : (x : Request) (lent : PlanRoom) → Numbered (judgedIn x lent)
+numbered : (x : Request) (lent : PlanRoom) → Numbered (judged x lent)
 numbered x lent = omega arith
 
 module _ {x : Request} (lent : PlanRoom) {words : List ℕ} {a : Answer}
@@ -56,15 +56,15 @@ module _ {x : Request} (lent : PlanRoom) {words : List ℕ} {a : Answer}
   planned-refused n =
       record {
         answer =
-            refused-front (slotsRow (x .settings) (x .list) ∷ []) (Needed (x .settings) (x .list)) _ _ (judgedIn x lent)
+            refused-front (slotsRow (x .settings) (x .list) ∷ []) (Needed (x .settings) (x .list)) _ _ (judged x lent)
             (λ p. p ≡ 0) (numbered x lent) n (j .answer);
         refused = λ m. refl;
         done = λ e. absurd (n e);
       }
 
   module _ (e : numberOf a ≡ 0) (room : 600 ≤ length words) where
-    held : Hold (judgedIn x lent)
-    held = zero-holds (λ p. p ≡ 0) _ _ (judgedIn x lent) (numbered x lent) (j .answer) e .0
+    held : Hold (judged x lent)
+    held = zero-holds (λ p. p ≡ 0) _ _ (judged x lent) (numbered x lent) (j .answer) e .0
 
     fillable : Fillable x words lent
     fillable =
@@ -84,12 +84,14 @@ module _ {x : Request} (lent : PlanRoom) {words : List ℕ} {a : Answer}
     -- 9, or done, where the rows before it hold
     asked : (n p : ℕ) → FirstRow (slotsRow (x .settings) (x .list) ∷ []) (Needed (x .settings) (x .list)) n p
         → FirstRow (planningRows x lent) (Needed (x .settings) (x .list)) n p
-    asked n p = pass (slotsRow (x .settings) (x .list) ∷ []) (Needed (x .settings) (x .list)) n p (judgedIn x lent) held
+    asked n p = pass (slotsRow (x .settings) (x .list) ∷ []) (Needed (x .settings) (x .list)) n p (judged x lent) held
 
-    pub planned-filled : {f : Filled} {exit : PlanRoom} → FillOutcome x words lent f exit → Planned x lent (answerOf f) exit
+    pub planned-filled : {f : Filled} {exit : PlanRoom} → FillOutcome x words lent f exit
+        → Planned x lent (answerOf f) exit
     planned-filled (unfit n) = absurd (n fillable)
     planned-filled (short h l) =
-        let over : slotsRow (x .settings) (x .list) .holds → ⊥ = λ all. omega (arith, all (repetitionIn words) (j .found e)) in
+        let over : slotsRow (x .settings) (x .list) .holds → ⊥ =
+        λ all. omega (arith, all (repetitionIn words) (j .found e)) in
         record {
           answer = asked 9 _ (inl (over, refl, (repetitionIn words, j .found e, refl)));
           refused = λ n. refl;

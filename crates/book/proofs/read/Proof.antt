@@ -36,9 +36,9 @@ cast-t9 c =
 
 returns-2 : tie.Need-returns-2
 returns-2 c =
-    let place = c .before .before in
-    let (sound, signals) = judged (place .before) in
-    read-short sound (omega (arith, place .place .ensures)) (rw (place .place .ensures, signals)) (c .no-settings2 .ensures)
+    let at = c .before .before in
+    let (sound, signals) = judged (at .before) in
+    read-short sound (omega (arith, at .place .ensures)) (rw (at .place .ensures, signals)) (c .no-settings2 .ensures)
 
 copy-list-requires : tie.Need-copy-list-requires
 copy-list-requires c κs =

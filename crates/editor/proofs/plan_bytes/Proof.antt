@@ -8,9 +8,9 @@ use Rattle.editor.proofs.BytesLaws.{refused-6, refused-10, refused-late
 use Rattle.editor.proofs.plan_bytes.Statement.{statement}
 use Rattle.editor.proofs.plan_bytes.Tie as tie
 
--- the settings tested before a plan, and the count of the list
-abbrev Tested : tie.After-count → tie.After-setting-out-of-range
-Tested m = m .before .before
+-- where it begins, and the count of the list before a plan
+abbrev Begin : tie.After-count → tie.Start
+Begin m = m .before .before .before .before .before
 
 abbrev Counted : tie.After-plan → tie.After-count
 Counted p = p .before .before .before .before
@@ -22,15 +22,15 @@ returns-2 : tie.Need-returns-2
 returns-2 c =
     let m = c .before in
     rw (m .count .ensures)
-    (refused-10 _ (Tested m .setting-out-of-range .ensures) (omega arith) (omega (arith, m .count .ensures)))
+    (refused-10 _ (m .before .before .setting-out-of-range .ensures) (omega arith) (omega (arith, m .count .ensures)))
 
 returns-3 : tie.Need-returns-3
 returns-3 c =
     let n = c .before in
     let p = n .before .before .before in
     let m = Counted p in
-    refused-later _ (Tested m .setting-out-of-range .ensures) (omega arith) (omega (arith, m .count .ensures))
-    (Tested m .before .before .before .pre) (omega arith) (p .plan .ensures) (λ z. c .if3 .taken (n .number .ensures ∙ z))
+    refused-later _ (m .before .before .setting-out-of-range .ensures) (omega arith)
+    (omega (arith, m .count .ensures)) (Begin m .pre) (omega arith) (p .plan .ensures) (λ z. c .if3 .taken (n .number .ensures ∙ z))
 
 slice-aggregate-put-words : tie.Need-slice-aggregate-put-words
 slice-aggregate-put-words c = simp length-take (omega arith)
@@ -42,8 +42,8 @@ returns-4 c =
     let p = e .before .before .before .before in
     let m = Counted p in
     rw (put .put-words .ensures, m .count .ensures)
-    (bytes-done _ (Tested m .setting-out-of-range .ensures) (omega arith) (omega (arith, m .count .ensures))
-    (Tested m .before .before .before .pre) (omega arith) (p .plan .ensures) (sym (e .before .number .ensures) ∙ e .if3 .left))
+    (bytes-done _ (m .before .before .setting-out-of-range .ensures) (omega arith) (omega (arith, m .count .ensures))
+    (Begin m .pre) (omega arith) (p .plan .ensures) (sym (e .before .number .ensures) ∙ e .if3 .left))
 
 pub plan-bytes-spec : {M : Type 1} → statement M
 plan-bytes-spec =

@@ -9,14 +9,16 @@ use Rattle.planner.proofs.plan.Tie as tie
 
 returns : tie.Need-returns
 returns c =
-    planned-refused _ (c .before .before .before .judge .ensures) (λ z. c .if1 .taken (c .before .number .ensures ∙ z))
+    planned-refused _ (c .before .before .before .judge .ensures)
+    (λ z. c .if1 .taken (c .before .number .ensures ∙ z))
 
 returns-2 : tie.Need-returns-2
 returns-2 c =
     let f = c .before .before .before .before .before in
     let e = f .before .before .before .before in
     let done = sym (e .before .number .ensures) ∙ e .if1 .left in
-    rw (c .answered .ensures) (planned-filled _ (e .before .before .before .judge .ensures) done (omega arith) (f .fill .ensures))
+    rw (c .answered .ensures)
+    (planned-filled _ (e .before .before .before .judge .ensures) done (omega arith) (f .fill .ensures))
 
 pub plan-spec : {M : Type 1} → statement M
 plan-spec =

@@ -51,7 +51,8 @@ loop-holds c =
 returns : tie.Need-returns Inv-loop μ-loop
 returns c =
     let l = c .before .before .before .before in
-    found-not (l .loop .inv .0) (omega (arith, Begin l .pre .count .counted)) (rw (c .if1 .taken) at (largest (c .before)))
+    found-not (l .loop .inv .0) (omega (arith, Begin l .pre .count .counted))
+    (rw (c .if1 .taken) at (largest (c .before)))
 
 add-i : tie.Need-add-i Inv-loop μ-loop
 add-i c = let close = near (c .before .before .before) in omega arith

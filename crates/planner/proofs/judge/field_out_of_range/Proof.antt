@@ -26,8 +26,8 @@ returns : tie.Need-returns Inv-loop μ-loop
 returns c =
     let l = c .before .before .before .before in
     let test = c .before .signal-in-range in
-    let not = rw (c .before .before .signal-at .ensures) at (refused (test .result) (test .ensures) (c .if1 .taken)) in
-    stops _ _ (l .loop .i) (l .loop .inv) (omega (arith, Begin l .pre .counted)) not
+    let no = rw (c .before .before .signal-at .ensures) at (refused (test .result) (test .ensures) (c .if1 .taken)) in
+    stops _ _ (l .loop .i) (l .loop .inv) (omega (arith, Begin l .pre .counted)) no
 
 add-i : tie.Need-add-i Inv-loop μ-loop
 add-i c = let l = c .before .before .before .before in omega (arith, Begin l .pre .right .few, Begin l .pre .counted)
@@ -36,8 +36,8 @@ loop-again : tie.Need-loop-again Inv-loop μ-loop
 loop-again c =
     let l = c .before .before .before .before in
     let test = c .before .signal-in-range in
-    let here = rw (c .before .before .signal-at .ensures) at (granted (test .result) (test .ensures) (c .if1 .left)) in
-    reached-next _ _ (l .loop .i) (l .loop .inv) (omega (arith, Begin l .pre .counted)) here
+    let has = rw (c .before .before .signal-at .ensures) at (granted (test .result) (test .ensures) (c .if1 .left)) in
+    reached-next _ _ (l .loop .i) (l .loop .inv) (omega (arith, Begin l .pre .counted)) has
 
 returns-2 : tie.Need-returns-2 Inv-loop μ-loop
 returns-2 c = let l = c .before in none-without _ _ (l .loop .i) (l .loop .inv) (omega (arith, Begin l .pre .counted))

@@ -24,8 +24,8 @@ asked j = request (Begin j .args .s) (Begin j .args .list .now)
 lent : (e : tie.Else1) → Hold (lentRows (asked (e .before .before)) (Begin (e .before .before) .args .cells) (Begin (e .before .before) .args .results))
 lent e =
     let j = e .before .before in
-    lent-holds (asked j) (Begin j .args .cells) (Begin j .args .results) (j .judge-lent .result) (j .judge-lent .ensures)
-    (sym (e .before .number .ensures) ∙ e .if1 .left)
+    lent-holds (asked j) (Begin j .args .cells) (Begin j .args .results) (j .judge-lent .result)
+    (j .judge-lent .ensures) (sym (e .before .number .ensures) ∙ e .if1 .left)
 
 -- past the second every signal is in range
 signals : (e : tie.Else2) → EachSignal (asked (e .before .before .before .before .before) .list) (SignalInRange (asked (e .before .before .before .before .before) .settings))

@@ -30,7 +30,8 @@ returns-3 c =
     let p = n .before .before .before in
     let m = Counted p in
     refused-later _ (m .before .before .setting-out-of-range .ensures) (omega arith)
-    (omega (arith, m .count .ensures)) (Begin m .pre) (omega arith) (p .plan .ensures) (λ z. c .if3 .taken (n .number .ensures ∙ z))
+    (omega (arith, m .count .ensures)) (Begin m .pre) (omega arith) (p .plan .ensures)
+    (λ z. c .if3 .taken (n .number .ensures ∙ z))
 
 slice-aggregate-put-words : tie.Need-slice-aggregate-put-words
 slice-aggregate-put-words c = simp length-take (omega arith)

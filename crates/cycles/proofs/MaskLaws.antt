@@ -1,6 +1,6 @@
 -- The laws of `Shows` and `Mask`: a bit follows its fact, and a mask is one word.
 -- Assumes nothing.
-use mathlib.Core.Path.{_≡_, refl, sym, subst}
+use mathlib.Core.Path.{_≡_, refl}
 use mathlib.Core.Bool.{Bool, true, false, cond}
 use Prim.Native.Nat.{ℕ, zero, suc, _+_, _^_, _<_, min}
 use native.Mathlib.Omega.{arith}
@@ -19,7 +19,7 @@ shows-iff f g (set p) = set (f p)
 shows-iff f g (clear p) = clear (λ q. p (g q))
 
 pub shows-never : {P : Type 0} (n : ℕ) → n ≡ 0 → (P → ⊥) → Shows P n
-shows-never {P} n e h = subst (λ (k : ℕ). Shows P k) (sym e) (clear h)
+shows-never n e h = rw e (clear h)
 
 -- a computed test shows its fact
 pub shows-test : {P : Type 0} (b : Bool) → (b ≡ true → P) → (b ≡ false → P → ⊥) → Shows P (cond b 1 0)
@@ -38,16 +38,13 @@ bit-of (clear p) q = absurd (p q)
 -- a 1 less what another bit shows
 pub shows-without : {A B : Type 0} {x y : ℕ} (z : ℕ) → Shows A x → Shows B y → z + y ≡ 1 → Shows (A × (B → ⊥)) (min x z)
 shows-without z (set a) (set b) e = shows-never (min 1 z) (omega arith) (λ p. p .1 b)
-shows-without {A} {B} z (set a) (clear b) e =
-    let one : 1 ≡ min 1 z = omega arith in subst (λ (k : ℕ). Shows (A × (B → ⊥)) k) one (set (a, b))
-shows-without z (clear a) (set b) e = shows-never (min 0 z) (omega arith) (λ p. a (p .0))
-shows-without z (clear a) (clear b) e = shows-never (min 0 z) (omega arith) (λ p. a (p .0))
+shows-without z (set a) (clear b) e = let one : z ≡ 1 = omega arith in rw one (set (a, b))
+shows-without z (clear a) b e = shows-never (min 0 z) (omega arith) (λ p. a (p .0))
 
 -- a bit shows that it is 1
 pub shows-itself : (n : ℕ) → n < 2 → Shows (n ≡ 1) n
 shows-itself zero h = clear (λ e. omega arith)
-shows-itself (suc n) h =
-    let e : n ≡ 0 = omega arith in subst (λ (k : ℕ). Shows (suc k ≡ 1) (suc k)) (sym e) (set refl)
+shows-itself (suc n) h = let e : n ≡ 0 = omega arith in rw e (set refl)
 
 -- no cycle has the property: the word 0
 pub mask-none : (P : ℕ → Type 0) → ((c : ℕ) → P c → ⊥) → Mask 0 P

@@ -1,9 +1,9 @@
 -- The rule of the seven patterns: one test that antt computes at each of their 448 bits, and the rule that it gives.
 -- Assumes nothing.
-use mathlib.Core.Path.{_≡_, sym, ap, _∙_, subst}
+use mathlib.Core.Path.{_≡_, ap, _∙_}
 use mathlib.Core.Bool.{Bool, cond}
 use mathlib.Core.List.{List, [], _∷_}
-use Prim.Native.Nat.{ℕ, _*_, _/_, _%_, _^_, _≤_}
+use Prim.Native.Nat.{ℕ, _/_, _%_, _^_, _≤_}
 use native.Mathlib.Nat.{mul-mod-left, div-add-mod'}
 use native.Mathlib.Omega.{arith}
 use borrow.Author.Tests.{eqb-true, eqb-false}
@@ -12,7 +12,7 @@ use lib.ListN.{getD}
 use lib.Count.{trailingZeros}
 use Rattle.laws.specs.Divisor.{Divides}
 use Rattle.laws.proofs.Tests.{below, at}
-use Rattle.cycles.specs.Bits.{bit, Shows, Mask}
+use Rattle.cycles.specs.Bits.{bit, Mask}
 use Rattle.cycles.proofs.MaskLaws.{shows-test, shows-iff}
 use Rattle.cycles.specs.Frames.{Multiple}
 use Rattle.terms.specs.Ranges.{Repetition}
@@ -43,37 +43,18 @@ tested = tt
 pub pattern-rule : (e : ℕ) → e ≤ 6 → Mask (getD patterns e 0) (Divides (2 ^ e))
 unfolding right row
 pattern-rule e h c l =
-    let m = bit (getD patterns e 0) c in
-    let is : m ≡ cond (eqb (c % 2 ^ e) 0) 1 0 =
-    eqb→eq m (cond (eqb (c % 2 ^ e) 0) 1 0) (at (right e) 64 (at row 7 tested e (omega arith)) c l) in
-    subst (Shows (Divides (2 ^ e) c)) (sym is)
+    rw (eqb→eq (bit (getD patterns e 0) c) _ (at (right e) 64 (at row 7 tested e (omega arith)) c l))
     (shows-test (eqb (c % 2 ^ e) 0)
     (λ t. (c / 2 ^ e, omega (arith, div-add-mod' c (2 ^ e), eqb-true (c % 2 ^ e) 0 t)))
     (λ t d. eqb-false (c % 2 ^ e) 0 t (ap (λ (x : ℕ). x % 2 ^ e) (d .1) ∙ mul-mod-left (d .0) (2 ^ e))))
 
 -- the exponent of a repetition is its number of trailing zeros
-exponent : ℕ → Bool
-exponent e = eqb (trailingZeros 32 (2 ^ e)) e
-
-exponents : T (below exponent 7)
-unfolding exponent trailingZeros
-exponents = tt
-
-pub exponent-of : (e : ℕ) → e ≤ 6 → trailingZeros 32 (2 ^ e) ≡ e
-unfolding exponent
-exponent-of e h = eqb→eq (trailingZeros 32 (2 ^ e)) e (at exponent 7 exponents e (omega arith))
-
 pub exponent-zeros : {R : ℕ} (r : Repetition R) → trailingZeros 32 R ≡ r .0
-exponent-zeros r = ap (trailingZeros 32) (r .2) ∙ exponent-of (r .0) (r .1)
-
-pub exponent-small : {R : ℕ} → Repetition R → trailingZeros 32 R ≤ 6
-exponent-small {R} r = let e = exponent-zeros r in omega (arith, r .1)
+unfolding trailingZeros
+exponent-zeros (e, h, p) = rw p (eqb→eq _ e (at (λ d. eqb (trailingZeros 32 (2 ^ d)) d) 7 tt e (omega arith)))
 
 -- the rule at a repetition
 pub pattern-of : {R : ℕ} → Repetition R → Mask (getD patterns (trailingZeros 32 R) 0) (Multiple R)
-pattern-of {R} r c l =
-    subst (λ (e : ℕ). Shows (Multiple R c) (bit (getD patterns e 0) c)) (sym (exponent-zeros r))
-    (shows-iff
-    (λ d. record { repetition = r; multiple = (d .0, d .1 ∙ ap (λ (x : ℕ). d .0 * x) (sym (r .2))) })
-    (λ m. (m .multiple .0, m .multiple .1 ∙ ap (λ (x : ℕ). m .multiple .0 * x) (r .2)))
-    (pattern-rule (r .0) (r .1) c l))
+pattern-of r c l =
+    rw (exponent-zeros r) (shows-iff (λ d. record { repetition = r; multiple = d }) (λ m. m .multiple)
+    (rw (← r .2) at (pattern-rule (r .0) (r .1) c l)))

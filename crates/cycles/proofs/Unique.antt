@@ -2,9 +2,7 @@
 -- Assumes nothing.
 use mathlib.Core.Path.{_≡_, refl, sym, _∙_}
 use mathlib.Core.Bool.{Bool}
-use mathlib.Core.Logic.{dite}
 use Prim.Native.Nat.{ℕ, _^_, _<_}
-use native.Mathlib.Decide.{decLt}
 use native.Mathlib.Omega.{arith}
 use Rattle.laws.specs.Says.{Says}
 use Rattle.laws.proofs.SaysLaws.{says-unique}
@@ -50,23 +48,20 @@ fresh-unique u a b ha hb p q =
     (equal-by-bits 64 (a .free) (b .free) ha hb (λ c l. p .free c l ∙ sym (q .free c l)))
 
 not-before : {s : Slot} {a b : ℕ} → FirstFree s a → FirstFree s b → a < b → ⊥
-not-before {s} {a} p q h = q .before a h (p .found (omega (arith, q .within)))
+not-before {a = a} p q h = q .before a h (p .found (omega (arith, q .within)))
 
 pub first-free-unique : (s : Slot) (a b : ℕ) → FirstFree s a → FirstFree s b → a ≡ b
-first-free-unique s a b p q =
-    dite (decLt a b) (λ l. absurd (not-before p q l)) (λ n.
-    dite (decLt b a) (λ l. absurd (not-before q p l)) (λ m. omega arith))
+first-free-unique s a b p q = omega (arith, not-before p q, not-before q p)
 
 pub all-free-unique : (s : Slot) (R base : ℕ) (a b : Bool) → Says (AllFree s R base) a → Says (AllFree s R base) b → a ≡ b
 all-free-unique s R base = says-unique (AllFree s R base)
 
-pub take-unique : (s : Slot) (R base : ℕ) (a b : Slot) → a .free < 2 ^ 64 → b .free < 2 ^ 64
-    → FrameTaken s R base a → FrameTaken s R base b → a ≡ b
-take-unique s R base a b ha hb p q =
-    same-slot a b (p .unit ∙ sym (q .unit))
-    (mask-unique (λ c. Free s c × (Names R base c → ⊥)) (a .free) (b .free) ha hb (p .free) (q .free))
+module _ (s : Slot) (R base : ℕ) (a b : Slot) (ha : a .free < 2 ^ 64) (hb : b .free < 2 ^ 64) where
+  pub take-unique : FrameTaken s R base a → FrameTaken s R base b → a ≡ b
+  take-unique p q =
+      same-slot a b (p .unit ∙ sym (q .unit))
+      (mask-unique (λ c. Free s c × (Names R base c → ⊥)) (a .free) (b .free) ha hb (p .free) (q .free))
 
--- the slot lent, at exit
-pub clear-unique : (s : Slot) (R base : ℕ) (a b : Slot) → a .free < 2 ^ 64 → b .free < 2 ^ 64
-    → FrameTaken s R base a → FrameTaken s R base b → a ≡ b
-clear-unique = take-unique
+  -- the slot lent, at exit
+  pub clear-unique : FrameTaken s R base a → FrameTaken s R base b → a ≡ b
+  clear-unique = take-unique

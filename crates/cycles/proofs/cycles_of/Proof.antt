@@ -6,7 +6,6 @@ use borrow.Author.Needs.{needs}
 use Rattle.laws.proofs.SaysLaws.{granted, refused}
 use Rattle.terms.specs.Ranges.{Repetition}
 use Rattle.cycles.proofs.MaskLaws.{mask-none}
-use Rattle.cycles.specs.Frames.{Names}
 use Rattle.terms.proofs.RepetitionLaws.{repetition-most}
 use Rattle.cycles.proofs.OperationLaws.{shifted}
 use Rattle.cycles.proofs.cycles_of.Statement.{statement}
@@ -14,14 +13,11 @@ use Rattle.cycles.proofs.cycles_of.Tie as tie
 
 returns : tie.Need-returns
 returns c =
-    let a = c .before .before .args in
-    mask-none (Names (a .repetition) (a .base))
-    (λ k n. refused (c .before .is-repetition .result) (c .before .is-repetition .ensures) (c .if1 .taken) (n .repetition))
+    let r = c .before .is-repetition in
+    mask-none _ (λ k n. refused (r .result) (r .ensures) (c .if1 .taken) (n .repetition))
 
 returns-2 : tie.Need-returns-2
-returns-2 c =
-    let a = c .before .before .before .args in
-    mask-none (Names (a .repetition) (a .base)) (λ k n. omega (arith, n .base))
+returns-2 c = mask-none _ (λ k n. omega (arith, n .base))
 
 seven : (c : tie.Else1) → Repetition (c .before .before .args .repetition)
 seven c = granted (c .before .is-repetition .result) (c .before .is-repetition .ensures) (c .if1 .left)

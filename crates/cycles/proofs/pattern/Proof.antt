@@ -5,32 +5,30 @@ use borrow.Author.Needs.{needs}
 use Rattle.laws.proofs.SaysLaws.{granted, refused}
 use Rattle.terms.specs.Ranges.{Repetition}
 use Rattle.cycles.proofs.MaskLaws.{mask-none}
-use Rattle.cycles.specs.Frames.{Multiple}
-use Rattle.cycles.proofs.Patterns.{patterns, exponent-small, pattern-of}
+use Rattle.cycles.proofs.Patterns.{patterns, exponent-zeros, pattern-of}
 use Rattle.cycles.proofs.pattern.Statement.{statement}
 use Rattle.cycles.proofs.pattern.Tie as tie
 
 returns : tie.Need-returns
 returns c =
-    mask-none (Multiple (c .before .before .args .repetition))
-    (λ k m. refused (c .before .is-repetition .result) (c .before .is-repetition .ensures) (c .if1 .taken) (m .repetition))
+    let r = c .before .is-repetition in
+    mask-none _ (λ k m. refused (r .result) (r .ensures) (c .if1 .taken) (m .repetition))
 
 seven : (c : tie.Else1) → Repetition (c .before .before .args .repetition)
 seven c = granted (c .before .is-repetition .result) (c .before .is-repetition .ensures) (c .if1 .left)
 
 cast-e : tie.Need-cast-e
-cast-e c = omega (arith, exponent-small (seven c))
+cast-e c = omega (arith, exponent-zeros (seven c), seven c)
 
 mul-result : tie.Need-mul-result
-mul-result c = omega (arith, exponent-small (seven c))
+mul-result c = omega (arith, exponent-zeros (seven c), seven c)
 
 array-read-result : tie.Need-array-read-result
-array-read-result c = omega (arith, exponent-small (seven c))
+array-read-result c = omega (arith, exponent-zeros (seven c), seven c)
 
 returns-2 : tie.Need-returns-2
 unfolding patterns
 returns-2 c = pattern-of (seven c)
 
 pub pattern-spec : {M : Type 1} → statement M
-pattern-spec =
-    tie.close (tie.spec (λ c κs. search needs) returns cast-e mul-result array-read-result returns-2)
+pattern-spec = tie.close (tie.spec (λ c κs. search needs) returns cast-e mul-result array-read-result returns-2)

@@ -11,12 +11,12 @@ use Rattle.cycles.proofs.Slot.all_free.Tie as tie
 
 returns : tie.Need-returns
 returns c =
-    let a = c .before .before .args in
+    let s = c .before .before .args .self in
     let m = c .before .cycles-of .result in
     let mask = c .before .cycles-of .ensures in
-    let both = bitAnd (a .self .free) m in
-    says (eqb both m) (λ e. all-free (a .self) (a .repetition) (a .base) m mask (eqb-true both m e))
-    (λ e h. eqb-false both m e (mask-free (a .self) (a .repetition) (a .base) m mask (search needs) h))
+    let both = bitAnd (s .free) m in
+    says (eqb both m) (λ e. all-free s _ _ m mask (eqb-true both m e))
+    (λ e h. eqb-false both m e (mask-free s _ _ m mask (search needs) h))
 
 pub all-free-spec : {M : Type 1} → statement M
 all-free-spec = tie.close (tie.spec (λ c κs. search needs) returns)

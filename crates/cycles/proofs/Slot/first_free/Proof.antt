@@ -9,11 +9,7 @@ use Rattle.cycles.proofs.Slot.first_free.Tie as tie
 returns : tie.Need-returns
 returns c =
     let free = c .before .args .self .free in
-    record {
-      within = trailing-le 64 free;
-      before = λ k l e. omega (arith, bit-before 64 free k l);
-      found = bit-at 64 free;
-    }
+    record { within = trailing-le 64 _; before = λ k l e. omega (arith, bit-before 64 free k l); found = bit-at 64 _ }
 
 pub first-free-spec : {M : Type 1} → statement M
 first-free-spec = tie.close (tie.spec returns)

@@ -8,12 +8,8 @@ use Rattle.cycles.proofs.Slot.take.Tie as tie
 
 returns : tie.Need-returns
 returns c =
-    let a = c .before .before .args in
-    let m = c .before .cycles-of in
-    record {
-      unit = refl;
-      free = left-free (a .self) (a .repetition) (a .base) (m .result) (m .ensures) (search needs);
-    }
+    let s = c .before .before .args .self in
+    record { unit = refl; free = left-free s _ _ _ (c .before .cycles-of .ensures) (search needs) }
 
 pub take-spec : {M : Type 1} → statement M
 take-spec = tie.close (tie.spec (λ c κs. search needs) returns)

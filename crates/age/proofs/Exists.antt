@@ -8,9 +8,8 @@ use Rattle.terms.specs.declared.Settings.{Settings}
 use Rattle.terms.specs.declared.Signal.{Signal}
 use Rattle.terms.specs.declared.Frame.{Frame}
 use Rattle.terms.proofs.RangesDecided.{valid-or-not, frame-or-not}
-use Rattle.age.specs.Age.{Age}
 use Rattle.age.specs.AgeGiven.{InRange, AgeGiven}
-use Rattle.age.proofs.AgeTests.{computedAge, computed-age}
+use Rattle.age.proofs.AgeTests.{computed-age}
 
 module _ (s : Settings) (x : Signal) (f : Frame) where
   in-range-or-not : Dec (InRange s x f)
@@ -20,6 +19,4 @@ module _ (s : Settings) (x : Signal) (f : Frame) where
 
   pub age-given-exists : (a : ℕ) × AgeGiven s x f a
   age-given-exists =
-      dite in-range-or-not
-      (λ r. (computedAge s x f, given-inside (InRange s x f) (Age s x f) (computedAge s x f) r (computed-age s x f r)))
-      (λ n. (0, given-outside (InRange s x f) (Age s x f) n))
+      dite in-range-or-not (λ r. (_, given-inside _ _ _ r (computed-age s x f r))) (λ n. (0, given-outside _ _ n))

@@ -1,28 +1,22 @@
 -- What the time between starts does to ages: a frame that starts more often is never later; an age within the period
 -- keeps the span within the period (the paper's equation 2), and then no value is overwritten unsent.
-use mathlib.Core.Logic.{dite}
 use Prim.Native.Nat.{ℕ, _+_, _*_, _-_, _≤_, _<_}
-use native.Mathlib.Nat.{mul-le-mul-right, lt-of-not-le, lt-of-mul-lt-mul-right}
-use native.Mathlib.Decide.{decLe}
+use native.Mathlib.Nat.{mul-le-mul-right, lt-of-mul-lt-mul-right}
 use native.Mathlib.Omega.{arith}
 use Rattle.laws.specs.Divisor.{Divides}
-use Rattle.laws.proofs.DivisorLaws.{divisor-positive}
 use Rattle.age.specs.Age.{Carries, ValueAge, IsAge}
-use Rattle.age.proofs.FormulaLaws.{longest-top}
-use Rattle.age.proofs.AgeLaws.{carried, wait-below, age-formula, Formula}
+use Rattle.age.proofs.AgeLaws.{carried, wait-below, age-reaches}
 
 -- the starts of a frame are among those of one that starts n times as often
 pub oftener-younger : (first span n packing slot offset period a b : ℕ) → 0 < n * span
     → IsAge first span packing slot offset period a → IsAge first (n * span) packing slot offset period b
     → a ≤ b
-oftener-younger first span n packing slot offset period a b h p q = from (carried first (n * span) packing h (p .release))
-  where
-    from : (t : ℕ) × Carries first (n * span) packing (p .release) t → a ≤ b
-    from (t, c) =
-        let sooner = p .reached .carries .earliest t (c .start .0 * n, omega (arith, c .start .1)) (c .packed) in
-        let value : ValueAge first (n * span) packing slot (p .release) (t + slot - p .release) =
-        record { sent = t; carries = c; age = omega (arith, c .packed) } in
-        omega (arith, sooner, p .reached .age, q .largest (p .release) (t + slot - p .release) (p .released) value)
+oftener-younger first span n packing slot offset period a b h p q =
+    let (t, c) = carried first (n * span) packing h (p .release) in
+    let sooner = p .reached .carries .earliest t (c .start .0 * n, omega (arith, c .start .1)) (c .packed) in
+    let value : ValueAge first (n * span) packing slot (p .release) (t + slot - p .release) =
+    record { sent = t; carries = c; age = omega (arith, c .packed) } in
+    omega (arith, sooner, p .reached .age, q .largest (p .release) (t + slot - p .release) (p .released) value)
 
 -- multiples of g lie at least g apart
 apart : (g a b : ℕ) → Divides g a → Divides g b → a < b → a + g ≤ b
@@ -34,15 +28,9 @@ module _ (first span packing slot offset period : ℕ) (f : first < span) (t : 0
   -- equation 2
   pub span-within-period : (a : ℕ) → 0 < slot → IsAge first span packing slot offset period a → a ≤ period → span ≤ period
   span-within-period a s p h =
-      dite (decLe span period) (λ k. k)
-      (λ k. absurd (too-old (age-formula first span packing slot offset period f t a p) (lt-of-not-le k)))
-    where
-      too-old : Formula first span packing slot offset period f t a → period < span → ⊥
-      too-old e k =
-          let g = e .g in
-          let far = apart g period span (e .divisor .left) (e .divisor .right) k in
-          omega
-          (arith, far, e .age, longest-top (packing + span) g (e .d) (e .w) (divisor-positive g span (e .divisor .right) (omega arith)) (e .wait))
+      let (g, c, reached) = age-reaches first span packing slot offset period f t a p in
+      let never : period < span → ⊥ = λ k. omega (arith, apart g period span (c .left) (c .right) k) in
+      omega arith
 
   -- the next value has a start of its own, later than that of the value before it
   pub none-overwritten : span ≤ period → (r u v : ℕ) → Carries first span packing r u

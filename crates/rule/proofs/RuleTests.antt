@@ -2,10 +2,10 @@
 -- Assumes nothing.
 use mathlib.Core.Path.{refl}
 use mathlib.Core.Bool.{Bool, not}
-use mathlib.Core.Logic.{dite}
+use mathlib.Core.List.{List·Memᴰ}
+use Rattle.laws.specs.Lowest.{Between}
 use Prim.Native.Nat.{ℕ, zero, suc, _+_, _*_, _-_, _%_, _≤_, _<_}
-use native.Mathlib.Decide.{decLe}
-use native.Mathlib.Nat.{mod-lt, lt-of-not-le}
+use native.Mathlib.Nat.{mod-lt}
 use native.Mathlib.Omega.{arith}
 use lib.Dec.{leb, lit≤}
 use borrow.Author.Tests.{leb-true, leb-false}
@@ -14,16 +14,12 @@ use Rattle.laws.proofs.SaysLaws.{says, says-same}
 use Rattle.laws.proofs.Tests.{below, below-says}
 use Rattle.laws.proofs.FactTests.{Test, join, shown, said-true, said-false}
 use Rattle.laws.proofs.DivisorLaws.{euclid, euclid-gcd, gcd-positive, divisor-at-most}
-use Rattle.laws.proofs.GivenLaws.{given-inside}
 use Rattle.laws.proofs.NumbersLaws.{within}
 use Rattle.terms.specs.declared.Settings.{Settings}
 use Rattle.terms.specs.declared.Signal.{Signal}
 use Rattle.terms.specs.Ranges.{Valid, Repetition}
 use Rattle.terms.proofs.RepetitionLaws.{below-half}
-use Rattle.age.specs.Formula.{Longest}
-use Rattle.age.proofs.FormulaLaws.{longest-from-top}
-use Rattle.age.specs.AgeGiven.{LongestGiven}
-use Rattle.age.proofs.AgeGivenLaws.{longest-given-unique}
+use Rattle.age.proofs.AgeGivenLaws.{longest-given, longest-given-unique}
 use Rattle.rule.specs.Rule.{Keeps, segment, Largest}
 use Rattle.rule.proofs.RuleLaws.{span-range, searched-keeps, keeps-searched, smaller-keeps}
 use Rattle.rule.specs.Waits.{WaitKept, BasesKept}
@@ -35,17 +31,11 @@ wait limit g n = limit - 1 - (limit - 1 - n % g) % g
 
 wait-says : (limit g slot bound n : ℕ) → 0 < g → g ≤ limit → Says (WaitKept limit g slot bound n) (leb (wait limit g n + slot) bound)
 wait-says limit g slot bound n h l =
-    says (leb (wait limit g n + slot) bound)
-    (λ e w p. omega (arith, leb-true (wait limit g n + slot) bound e, longest-given-unique limit n g w (wait limit g n) p given))
-    (λ e kept. omega (arith, leb-false (wait limit g n + slot) bound e, kept (wait limit g n) given))
-  where
-    below-limit : n % g < limit
-    below-limit = omega (arith, mod-lt n h)
-
-    given : LongestGiven limit n g (wait limit g n)
-    given =
-        given-inside ((0 < g) × (n % g < limit)) (Longest limit g (n % g)) (wait limit g n) (h, below-limit)
-        (longest-from-top limit g (n % g) (mod-lt n h) below-limit)
+    let given = longest-given limit n g h (omega (arith, mod-lt n h)) in
+    let w = wait limit g n in
+    says (leb (w + slot) bound)
+    (λ e u p. omega (arith, leb-true (w + slot) bound e, longest-given-unique limit n g u w p given))
+    (λ e kept. omega (arith, leb-false (w + slot) bound e, kept w given))
 
 unfoldable pub keeps-at : (limit g slot bound slots cycle bases n : ℕ) → Bool
 keeps-at limit g slot bound slots cycle bases n =
@@ -84,20 +74,15 @@ fails-test s x R = (not (keeps-flag s x R), λ t v r. said-false (keeps-flag s x
 largest-by : (s : Settings) (x : Signal) (Q R : ℕ) → Valid s x → Repetition Q → (Keeps s x (segment s) Q → ⊥)
     → ((P : ℕ) → Repetition P → R < P → Q ≤ P) → (P : ℕ) → Repetition P → Keeps s x (segment s) P → P ≤ R
 largest-by s x Q R v q fails next P p keeps =
-    dite (decLe P R) (λ h. h)
-    (λ h.
-    absurd
-    (fails
-    (smaller-keeps s x v (segment s) (λ k m. let w = within 1 (s .slots) k m in omega arith) Q P q p
-    (next P p (lt-of-not-le h)) keeps)))
+    let inside : (k : ℕ) → List·Memᴰ k (segment s) → Between 1 (s .slots) k =
+    λ k m. omega (arith, within 1 (s .slots) k m) in
+    let never : R < P → ⊥ = λ h. fails (smaller-keeps s x v (segment s) inside Q P q p (next P p h) keeps) in
+    omega arith
 
 pub none : (s : Settings) (x : Signal) → (Valid s x → Repetition 1 → Keeps s x (segment s) 1 → ⊥) → Valid s x → Largest (Keeps s x (segment s)) 0
 none s x fails v =
     let one : Repetition 1 = (0, lit≤ tt, refl) in
-    record {
-      has = λ n. absurd (n refl);
-      largest = largest-by s x 1 0 v one (fails v one) (λ P p h. h);
-    }
+    record { has = λ n. absurd (n refl); largest = largest-by s x 1 0 v one (fails v one) (λ P p h. h) }
 
 pub some :
     (s : Settings) (x : Signal) (r : ℕ) →
@@ -105,13 +90,9 @@ pub some :
     × ((Valid s x → Repetition r → Keeps s x (segment s) r) × (Valid s x → Repetition (r * 2) → Keeps s x (segment s) (r * 2) → ⊥)) →
     Valid s x →
     Largest (Keeps s x (segment s)) r
-some s x r h v =
-    record {
-      has = λ n. (h .0 .0, h .1 .0 v (h .0 .0));
-      largest =
-          largest-by s x (r * 2) r v (h .0 .1) (h .1 .1 v (h .0 .1))
-          (λ P p l. let half = below-half r P (h .0 .0) p l in omega arith);
-    }
+some s x r ((one, double), (keeps, fails)) v =
+    let above = largest-by s x (r * 2) r v double (fails v double) (λ P p l. omega (arith, below-half r P one p l)) in
+    record { has = λ n. (one, keeps v one); largest = above }
 
 -- a signal's repetition, below 64
 abbrev pub gets-test : (s : Settings) (x : Signal) (r : ℕ) → Test (Valid s x → Largest (Keeps s x (segment s)) r)

@@ -1,6 +1,6 @@
 -- `rule::bases_keep` meets its contract: a loop along the bases. The measure is what is left of them.
 -- Assumes nothing.
-use Prim.Native.Nat.{ℕ, _+_, _*_, _-_, _≤_}
+use Prim.Native.Nat.{_-_}
 use native.Mathlib.Omega.{arith}
 use Rattle.laws.proofs.AlongLaws.{passed-none, passed-one, passed-all, passed-not, passed-below, Passed}
 use Rattle.laws.proofs.SaysLaws.{granted, refused}
@@ -15,48 +15,27 @@ Inv-loop limit g slot bound slots cycle bases n b₀ at₀ b at =
 abbrev μ-loop : tie.MeasureT-loop
 μ-loop limit g slot bound slots cycle bases n b₀ at₀ b at = bases - b
 
--- the fact at each base, of the arguments
-abbrev Kept : tie.Start Inv-loop μ-loop → ℕ → Type 0
-Kept c = SlotsKept (c .args .limit) (c .args .g) (c .args .slot) (c .args .bound) (c .args .slots)
-
--- in the loop the next base lies within the row
-within :
-    (c : tie.In-loop Inv-loop μ-loop) →
-    c .before .loop .at + c .before .before .args .cycle
-    ≤ c .before .before .args .n + c .before .before .args .bases * c .before .before .args .cycle
-within c =
-    let l = c .before in
-    let a = l .before .args in
-    passed-below (Kept (l .before)) (a .n) (a .cycle) (a .bases) (l .loop .b) (l .loop .at) (l .loop .inv) (omega arith)
-
 loop-holds : tie.Need-loop-holds Inv-loop μ-loop
-loop-holds c = passed-none (Kept c) (c .args .n) (c .args .cycle) (c .args .bases)
+loop-holds c = passed-none
 
 slots-keep-requires : tie.Need-slots-keep-requires Inv-loop μ-loop
-slots-keep-requires c κs = let near = within c in omega arith
+slots-keep-requires c κs = omega (arith, passed-below (c .before .loop .inv) (omega arith))
 
 returns : tie.Need-returns Inv-loop μ-loop
 returns c =
-    let l = c .before .before .before in
-    let a = l .before .args in
-    passed-not (Kept (l .before)) (a .n) (a .cycle) (a .bases) (l .loop .b) (l .loop .at) (l .loop .inv) (omega arith)
-    (refused (c .before .slots-keep .result) (c .before .slots-keep .ensures) (c .if1 .taken))
+    let j = c .before .slots-keep in
+    passed-not (c .before .before .before .loop .inv) (omega arith) (refused (j .result) (j .ensures) (c .if1 .taken))
 
 add-at : tie.Need-add-at Inv-loop μ-loop
-add-at c = let near = within (c .before .before) in omega arith
+add-at c = omega (arith, passed-below (c .before .before .before .loop .inv) (omega arith))
 
 loop-again : tie.Need-loop-again Inv-loop μ-loop
 loop-again c =
-    let l = c .before .before .before in
-    let a = l .before .args in
-    passed-one (Kept (l .before)) (a .n) (a .cycle) (a .bases) (l .loop .b) (l .loop .at) (l .loop .inv) (omega arith)
-    (granted (c .before .slots-keep .result) (c .before .slots-keep .ensures) (c .if1 .left))
+    let j = c .before .slots-keep in
+    passed-one (c .before .before .before .loop .inv) (omega arith) (granted (j .result) (j .ensures) (c .if1 .left))
 
 returns-2 : tie.Need-returns-2 Inv-loop μ-loop
-returns-2 c =
-    let l = c .before in
-    let a = l .before .args in
-    passed-all (Kept (l .before)) (a .n) (a .cycle) (a .bases) (l .loop .b) (l .loop .at) (l .loop .inv) (omega arith)
+returns-2 c = passed-all (c .before .loop .inv) (omega arith)
 
 pub bases-keep-spec : {M : Type 1} → statement M
 bases-keep-spec =

@@ -18,9 +18,7 @@ mul-span : tie.Need-mul-span
 mul-span c = let small = spans (c .before) in omega arith
 
 rem-ahead : tie.Need-rem-ahead
-rem-ahead c =
-    let a = c .before .before .before .args in
-    gcd-positive (a .x .period) (a .r * a .s .cycle) (c .before .gcd .result) (c .before .gcd .ensures) (spans (c .before .before .before) .0)
+rem-ahead c = gcd-positive _ _ _ (c .before .gcd .ensures) (spans (c .before .before .before) .0)
 
 sub-ahead : tie.Need-sub-ahead
 sub-ahead c = omega (arith, mod-lt (c .before .before .before .args .x .offset) (rem-ahead c))
@@ -32,16 +30,15 @@ bases-keep-requires : tie.Need-bases-keep-requires
 bases-keep-requires c κs =
     let start = c .before .before .before .before in
     let small = spans start in
-    let divides = divisor-at-most (c .before .before .gcd .result) (start .args .r * start .args .s .cycle) (c .before .before .gcd .ensures .right) (small .0) in
+    let divides = divisor-at-most _ _ (c .before .before .gcd .ensures .right) (small .0) in
     omega arith
 
 returns : tie.Need-returns
 returns c =
     let start = c .before .before .before .before .before in
-    let g = c .before .before .before .gcd .result in
     let divisor = c .before .before .before .gcd .ensures in
-    says-same (c .bases-keep .result) (searched-keeps (start .args .s) (start .args .x) (start .pre .0) (start .args .r) g divisor)
-    (keeps-searched (start .args .s) (start .args .x) (start .pre .0) (start .args .r) g divisor) (c .bases-keep .ensures)
+    says-same (c .bases-keep .result) (searched-keeps _ _ (start .pre .0) (start .args .r) _ divisor)
+    (keeps-searched _ _ (start .pre .0) (start .args .r) _ divisor) (c .bases-keep .ensures)
 
 pub keeps-spec : {M : Type 1} → statement M
 keeps-spec =

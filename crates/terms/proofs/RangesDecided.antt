@@ -1,8 +1,8 @@
 -- Each range is decided: the settings', a signal's, a repetition's, a frame's, and the length of a list.
 -- Assumes nothing.
 use mathlib.Core.Path.{refl}
-use mathlib.Core.List.{List, [], _∷_}
-use mathlib.Core.Logic.{inl, inr, dite, Dec·and}
+use mathlib.Core.List.{List}
+use mathlib.Core.Logic.{_⊎_, inl, inr, dite, Dec·and}
 use Prim.Native.Nat.{ℕ, _*_, _%_}
 use native.Mathlib.Decide.{ℕ-discrete, decLe, decLt, map-dec}
 use native.Mathlib.Omega.{arith}
@@ -12,8 +12,7 @@ use Rattle.laws.proofs.DecidedLaws.{Decided, decided-hold}
 use Rattle.terms.specs.declared.Settings.{Settings}
 use Rattle.terms.specs.declared.Signal.{Signal}
 use Rattle.terms.specs.declared.Frame.{Frame}
-use Rattle.terms.specs.Ranges.{SettingEntry, settingTable, tableRows, settingRows}
-use Rattle.terms.specs.Ranges.{SettingsInRange, SignalInRange, Valid, Repetition, FrameInRange}
+use Rattle.terms.specs.Ranges.{settingRows, SettingsInRange, SignalInRange, Valid, Repetition, FrameInRange}
 use Rattle.terms.specs.Lists.{signalSize, count, CountInRange}
 use Rattle.terms.proofs.Seven.{divisor, repetition-divides}
 use Rattle.terms.proofs.RepetitionLaws.{repetition-positive}
@@ -23,28 +22,17 @@ between-or-not low high x = Dec·and (decLe low x) (decLe x high)
 
 -- ---- settings and signals
 
--- each range of a table is decided
-abbrev EachDecided : List SettingEntry → Type 0
-EachDecided [] = Unit {0}
-EachDecided (t ∷ ts) = Dec (t .range) × EachDecided ts
-
-table-decided : (ts : List SettingEntry) → EachDecided ts → Decided (tableRows ts)
-table-decided [] d = tt
-table-decided (t ∷ ts) d =
-    dite (d .0) (λ h. inl (h, table-decided ts (d .1))) (λ n. inr (n, (t .word, refl)))
+-- one row more, decided, with its place
+asked : {A B C : Type 0} → Dec A → C → B → (A × B) ⊎ ((A → ⊥) × C)
+asked d place rest = dite d (λ h. inl (h, rest)) (λ n. inr (n, place))
 
 pub settings-decided : (s : Settings) → Decided (settingRows s)
 settings-decided s =
-    table-decided (settingTable s) (
-      between-or-not 10 16000 (s .cycle),
-      (
-        between-or-not 1 16000 (s .slot),
-        (
-          Dec·and (between-or-not 2 128 (s .slots)) (decLe (s .slots * s .slot) (s .cycle)),
-          (decLe (s .packing) 16000, (between-or-not 1 127 (s .payload), tt)),
-        ),
-      ),
-    )
+    asked (between-or-not 10 16000 (s .cycle)) (2, refl) (
+    asked (between-or-not 1 16000 (s .slot)) (3, refl) (
+    asked (Dec·and (between-or-not 2 128 (s .slots)) (decLe (s .slots * s .slot) (s .cycle))) (4, refl) (
+    asked (decLe (s .packing) 16000) (5, refl) (
+    asked (between-or-not 1 127 (s .payload)) (6, refl) tt))))
 
 pub settings-or-not : (s : Settings) → Dec (SettingsInRange s)
 settings-or-not s = decided-hold (settingRows s) (settings-decided s)

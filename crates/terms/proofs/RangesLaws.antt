@@ -23,11 +23,11 @@ pub table-single : (ts : List SettingEntry) → Single (tableRows ts)
 table-single [] = tt
 table-single (t ∷ ts) = ((λ p q d e. omega arith), table-single ts)
 
-module _ (n w : ℕ) where
-  zero-granted : (ts : List SettingEntry) → Named ts → FirstRow (tableRows ts) (λ p. p ≡ 0) n w → w ≡ 0 → Hold (tableRows ts)
-  zero-granted [] h f e = tt
-  zero-granted (t ∷ ts) h (inl f) e = absurd (omega (arith, h .0, f .2))
-  zero-granted (t ∷ ts) h (inr f) e = (f .0, zero-granted ts (h .1) (f .1) e)
+zero-granted : (n w : ℕ) (ts : List SettingEntry) → Named ts → FirstRow (tableRows ts) (λ p. p ≡ 0) n w → w ≡ 0
+    → Hold (tableRows ts)
+zero-granted n w [] h f e = tt
+zero-granted n w (t ∷ ts) h (inl f) e = absurd (omega (arith, h .0, f .2))
+zero-granted n w (t ∷ ts) h (inr f) e = (f .0, zero-granted n w ts (h .1) (f .1) e)
 
 module _ (s : Settings) (w : ℕ) (l : LowestOutOfRange s w) where
   pub settings-granted : w ≡ 0 → SettingsInRange s

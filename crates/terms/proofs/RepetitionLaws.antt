@@ -1,12 +1,11 @@
 -- Laws of the seven repetitions, once over the exponent: they are from 1 to 64, a larger one is a multiple of a smaller
 -- one, and halving goes from each to the next below, and from 1 to 0.
 use mathlib.Core.Path.{_≡_, _∙_, sym, ap, subst}
-use mathlib.Core.Logic.{dite, _⊎_, inl, inr}
-use Prim.Native.Nat.{ℕ, zero, suc, _*_, _-_, _/_, _^_, _≤_, _<_}
-use native.Mathlib.Nat.{add-sub-of-le, lt-of-not-le, mul-comm, two-pow-succ}
-use native.Mathlib.Decide.{decLe}
+use mathlib.Core.Logic.{_⊎_, inl, inr}
+use Prim.Native.Nat.{ℕ, zero, suc, _+_, _*_, _-_, _/_, _^_, _≤_, _<_}
+use native.Mathlib.Nat.{lt-of-not-le, two-pow-succ}
 use native.Mathlib.Omega.{arith}
-use lib.Pow.{pow-pos, pow-mono, pow-lt, pow-add}
+use lib.Pow.{pow-pos, pow-mono, pow-add}
 use Rattle.terms.specs.Ranges.{Repetition}
 
 pub repetition-positive : (R : ℕ) → Repetition R → 0 < R
@@ -16,19 +15,14 @@ pub repetition-most : (R : ℕ) → Repetition R → R ≤ 64
 repetition-most R (e, h, p) = subst (λ (n : ℕ). n ≤ 64) (sym p) (pow-mono h)
 
 -- exponents go as their powers
-exponent-order : (d e : ℕ) → 2 ^ d ≤ 2 ^ e → d ≤ e
-exponent-order d e h = dite (decLe d e) (λ k. k) (λ k. absurd (omega (arith, pow-lt (lt-of-not-le k))))
+exponent-below : (d e : ℕ) → 2 ^ d < 2 ^ e → d < e
+exponent-below d e h = lt-of-not-le (λ k. omega (arith, pow-mono k))
 
 pub repetition-multiple : (Q R : ℕ) → Repetition Q → Repetition R → Q ≤ R → (n : ℕ) × (R ≡ n * Q)
 repetition-multiple Q R (d, i, p) (e, j, q) h =
-    let order : d ≤ e = exponent-order d e (omega arith) in (
-      2 ^ (e - d),
-      q
-          ∙ ap (λ (n : ℕ). 2 ^ n) (sym (add-sub-of-le order))
-          ∙ pow-add 2 d (e - d)
-          ∙ mul-comm (2 ^ d) (2 ^ (e - d))
-          ∙ ap (λ (n : ℕ). 2 ^ (e - d) * n) (sym p),
-    )
+    let order = exponent-below d (suc e) (omega (arith, pow-pos e)) in
+    let sum : e ≡ e - d + d = omega arith in
+    (2 ^ (e - d), q ∙ ap (λ (n : ℕ). 2 ^ n) sum ∙ rw p (pow-add 2 (e - d) d))
 
 pub half-repetition : (R : ℕ) → Repetition R → (R / 2 ≡ 0) ⊎ Repetition (R / 2)
 half-repetition R (zero, h, p) = inl (omega arith)
@@ -38,8 +32,4 @@ half-repetition R (suc e, h, p) = inr (e, omega arith, omega (arith, p, two-pow-
 pub below-half : (Q R : ℕ) → Repetition Q → Repetition R → Q < R → Q ≤ R / 2
 below-half Q R (d, i, p) (zero, j, q) h = absurd (omega (arith, pow-pos d))
 below-half Q R (d, i, p) (suc e, j, q) h =
-    let order : d ≤ e = below-order in
-    omega (arith, pow-mono order, two-pow-succ e)
-  where
-    below-order : d ≤ e
-    below-order = dite (decLe d e) (λ k. k) (λ k. absurd (omega (arith, pow-mono (lt-of-not-le k))))
+    let order : d ≤ e = omega (arith, exponent-below d (suc e) (omega arith)) in omega (arith, pow-mono order)

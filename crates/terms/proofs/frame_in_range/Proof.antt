@@ -10,13 +10,9 @@ returns-3 c = λ h. refused (c .before .is-repetition .result) (c .before .is-re
 
 returns-5 : tie.Need-returns-5
 returns-5 c =
-    record {
-      slot = search needs;
-      repetition =
-          granted (c .before .before .before .is-repetition .result) (c .before .before .before .is-repetition .ensures)
-          (c .before .before .if3 .left);
-      base = search needs;
-    }
+    let j = c .before .before .before .is-repetition in
+    let repetition = granted (j .result) (j .ensures) (c .before .before .if3 .left) in
+    record { slot = search needs; repetition = repetition; base = search needs }
 
 pub frame-in-range-spec : {M : Type 1} → statement M
 frame-in-range-spec =

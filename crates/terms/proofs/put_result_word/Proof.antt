@@ -1,20 +1,17 @@
 -- `terms::put_result_word` meets its contract: past the end nothing is put.
 -- Assumes nothing.
-use mathlib.Core.Path.{sym, ap}
-use Prim.Native.Nat.{ℕ, _+_, _*_}
+use mathlib.Core.Path.{sym}
+use Prim.Native.Nat.{_+_}
 use native.Mathlib.Omega.{arith}
 use borrow.Author.Needs.{needs}
 use denote.Ref.{now}
-use lib.ListN.{set}
 use Rattle.laws.proofs.StoredLaws.{set-past}
-use Rattle.terms.specs.Results.{resultSize, resultStart}
+use Rattle.terms.specs.Results.{resultStart}
 use Rattle.terms.proofs.put_result_word.Statement.{statement}
 use Rattle.terms.proofs.put_result_word.Tie as tie
 
 returns : tie.Need-returns
-returns c =
-    let args = c .before .before .before .args in
-    ap (λ (n : ℕ). set (now (args .results)) (resultSize * n + args .d) (args .x)) (c .before .earlier .ensures .0)
+returns c = rw (c .before .earlier .ensures .0)
 
 returns-2 : tie.Need-returns-2
 returns-2 c =

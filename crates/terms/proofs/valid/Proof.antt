@@ -9,9 +9,8 @@ use Rattle.terms.proofs.valid.Tie as tie
 
 returns : tie.Need-returns
 returns c =
-    λ v.
-    settings-refused (c .before .before .args .s) (c .before .setting-out-of-range .result)
-    (c .before .setting-out-of-range .ensures) (λ z. omega arith) (v .settings)
+    let word = c .before .setting-out-of-range in
+    λ v. settings-refused _ (word .result) (word .ensures) (λ z. omega arith) (v .settings)
 
 returns-2 : tie.Need-returns-2
 returns-2 c =
@@ -19,15 +18,12 @@ returns-2 c =
 
 returns-3 : tie.Need-returns-3
 returns-3 c =
-    let settings = c .before .before .before in
+    let word = c .before .before .before .setting-out-of-range in
+    let signal = c .before .signal-in-range in
     record {
-      settings =
-          settings-granted (settings .before .args .s) (settings .setting-out-of-range .result)
-          (settings .setting-out-of-range .ensures) (omega arith);
-      signal = granted (c .before .signal-in-range .result) (c .before .signal-in-range .ensures) (c .if2 .left);
+      settings = settings-granted _ (word .result) (word .ensures) (omega arith);
+      signal = granted (signal .result) (signal .ensures) (c .if2 .left);
     }
 
 pub valid-spec : {M : Type 1} → statement M
-valid-spec =
-    tie.close
-    (tie.spec (λ c κs. search needs) returns (λ c κs. search needs) returns-2 returns-3)
+valid-spec = tie.close (tie.spec (λ c κs. search needs) returns (λ c κs. search needs) returns-2 returns-3)

@@ -4,7 +4,7 @@ use Prim.Native.Nat.{ℕ, _+_, _*_, _-_, _/_, _%_, _≤_, _<_}
 use native.Mathlib.Nat.{add-mod-mod, mod-add-div', mod-lt, mul-le-mul-right, lt-of-mul-lt-mul-right, add-mod-right}
 use native.Mathlib.Omega.{arith}
 use Rattle.laws.proofs.Orders.{factors-positive}
-use Rattle.laws.proofs.RemainderLaws.{same-remainder, remainder-splits, splits-remainder, rounded-up}
+use Rattle.laws.proofs.RemainderLaws.{same-remainder, splits-remainder, rounded-up}
 use Rattle.age.specs.Formula.{Remainder, Longest, roundedUp, pMax}
 
 -- d and a multiple of g, less than g below the limit
@@ -13,7 +13,7 @@ longest-by limit g d q w h e b t = record { below = b; leaves = rw e (splits-rem
   where
     within : (v : ℕ) → v < limit → v % g ≡ d → v ≤ w
     within v l r =
-        let split = remainder-splits g d v r in
+        let split = mod-add-div' v g in
         let few : v / g < q + 1 = lt-of-mul-lt-mul-right g (omega arith) in
         let most : v / g ≤ q = omega arith in
         omega (arith, mul-le-mul-right g most)

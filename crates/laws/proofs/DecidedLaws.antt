@@ -31,9 +31,9 @@ decided-hold (r ∷ rs) (inl (h, d)) = dite (decided-hold rs d) (λ k. yes (h, k
 decided-hold (r ∷ rs) (inr f) = no (λ k. f .0 (k .0))
 
 -- one row more, whose fact is decided and whose place is then known
-module _ (r : Row) (rs : List Row) where
-  pub asked : Dec (r .holds) → ((p : ℕ) × r .place p) → (r .holds → Decided rs) → Decided (r ∷ rs)
-  asked d p more = dite d (λ h. inl (h, more h)) (λ n. inr (n, p))
+pub asked : (r : Row) (rs : List Row) → Dec (r .holds) → ((p : ℕ) × r .place p) → (r .holds → Decided rs)
+    → Decided (r ∷ rs)
+asked r rs d p more = dite d (λ h. inl (h, more h)) (λ n. inr (n, p))
 
 -- a property that is decided at each number is that of each, or there is a lowest without it
 pub lowest-or-each : (m : ℕ) (P : ℕ → Type 0) → EachTo m (λ i. Dec (P i)) → EachTo m P ⊎ ((i : ℕ) × LowestWithout m P i)

@@ -1,10 +1,9 @@
 -- Laws of the lowest number without a property: there is at most one, and how a loop from 1 on comes to it.
 -- Assumes nothing.
-use mathlib.Core.Path.{_≡_, refl, sym, subst}
-use mathlib.Core.Logic.{inl, inr, ⊎-elim, dite}
+use mathlib.Core.Path.{_≡_, refl}
+use mathlib.Core.Logic.{inl, inr, dite}
 use Prim.Native.Nat.{ℕ, _+_, _≤_, _<_}
-use native.Mathlib.Nat.{eq-or-lt-of-le}
-use native.Mathlib.Decide.{decLt}
+use native.Mathlib.Decide.{ℕ-discrete}
 use native.Mathlib.Omega.{arith}
 use Rattle.laws.specs.Lowest.{EachTo, LowestWithout}
 use Rattle.laws.specs.Loops.{LowestOrNone}
@@ -21,14 +20,9 @@ module _ (m : ℕ) (P : ℕ → Type 0) where
 
   pub reached-next : (i : ℕ) → Reached m P i → i ≤ m → P i → Reached m P (i + 1)
   reached-next i r h p =
-      record {
-        first = omega arith;
-        last = omega arith;
-        passed = λ j l k. ⊎-elim (λ e. subst P (sym e) p) (λ n. r .passed j l n) (eq-or-lt-of-le (before j k));
-      }
-    where
-      before : (j : ℕ) → j < i + 1 → j ≤ i
-      before j k = omega arith
+      let passed : (j : ℕ) → 1 ≤ j → j < i + 1 → P j =
+      λ j l k. dite (ℕ-discrete j i) (λ e. rw e p) (λ n. r .passed j l (omega arith)) in
+      record { first = omega arith; last = omega arith; passed = passed }
 
   pub reached-all : (i : ℕ) → Reached m P i → m < i → EachTo m P
   reached-all i r h j b = r .passed j (b .0) (omega arith)
@@ -57,5 +51,6 @@ module _ (m : ℕ) (P : ℕ → Type 0) where
 
   pub lowest-one : (i j : ℕ) → LowestWithout m P i → LowestWithout m P j → i ≡ j
   lowest-one i j k l =
-      dite (decLt i j) (λ h. absurd (k .fails (l .before i (k .within .0) h))) (λ h.
-      dite (decLt j i) (λ g. absurd (l .fails (k .before j (l .within .0) g))) (λ g. omega arith))
+      let not-before : i < j → ⊥ = λ h. k .fails (l .before i (k .within .0) h) in
+      let not-after : j < i → ⊥ = λ h. l .fails (k .before j (l .within .0) h) in
+      omega arith

@@ -15,10 +15,6 @@ pub same-remainder : (g a b : ℕ) → Congruent g a b → a % g ≡ b % g
 same-remainder g a b (m, n, e) =
     sym (add-mul-mod-self-right a m g) ∙ ap (λ (z : ℕ). z % g) e ∙ add-mul-mod-self-right b n g
 
--- what leaves d is d and a multiple
-pub remainder-splits : (g d v : ℕ) → v % g ≡ d → v ≡ d + v / g * g
-remainder-splits g d v e = omega (arith, e, mod-add-div' v g)
-
 pub splits-remainder : (g d q : ℕ) → d < g → (d + q * g) % g ≡ d
 splits-remainder g d q h = add-mul-mod-self-right d q g ∙ mod-eq-of-lt h
 

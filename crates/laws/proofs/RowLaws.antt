@@ -1,21 +1,20 @@
 -- Laws of rows of refusals, once over any list of rows: which numbers come, one outcome only, and a front of rows passed.
 -- Assumes nothing.
-use mathlib.Core.Path.{_≡_, _∙_, sym, subst}
-use mathlib.Core.List.{List, [], _∷_, _++_, List·Memᴰ, List·Memᴰ·head, List·Memᴰ·tail}
-use mathlib.Core.Logic.{_⊎_, inl, inr, ⊎-elim}
+use mathlib.Core.Path.{_≡_, _∙_, sym}
+use mathlib.Core.List.{List, [], _∷_, _++_}
+use mathlib.Core.Logic.{inl, inr}
 use Prim.Native.Nat.{ℕ, _≤_}
 use native.Mathlib.Omega.{arith}
 use Rattle.laws.specs.Rows.{Row, FirstRow, Hold}
 
--- the numbers of the rows
-abbrev pub numbers : List Row → List ℕ
-numbers [] = []
-numbers (r ∷ rs) = r .number ∷ numbers rs
+-- a fact of each row's number
+abbrev pub EachNumber : (ℕ → Type 0) → List Row → Type 0
+EachNumber P [] = Unit {0}
+EachNumber P (r ∷ rs) = P (r .number) × EachNumber P rs
 
 -- no row has number 0
 abbrev pub Numbered : List Row → Type 0
-Numbered [] = Unit {0}
-Numbered (r ∷ rs) = (1 ≤ r .number) × Numbered rs
+Numbered = EachNumber (λ n. 1 ≤ n)
 
 -- each row has one place at most
 abbrev pub Single : List Row → Type 0
@@ -52,12 +51,6 @@ one-number (r ∷ rs) done m n p q (inr f) (inl g) = absurd (g .0 (f .0))
 one-number (r ∷ rs) done m n p q (inr f) (inr g) = one-number rs done m n p q (f .1) (g .1)
 
 module _ (done : ℕ → Type 0) (n p : ℕ) where
-  -- the number is 0 or one of the rows'
-  pub one-of : (rs : List Row) → FirstRow rs done n p → (n ≡ 0) ⊎ List·Memᴰ n (numbers rs)
-  one-of [] e = inl (e .0)
-  one-of (r ∷ rs) (inl f) = inr (List·Memᴰ·head (f .1))
-  one-of (r ∷ rs) (inr f) = ⊎-elim inl (λ m. inr (List·Memᴰ·tail m)) (one-of rs (f .1))
-
   -- 0 exactly where all rows hold
   pub zero-holds : (rs : List Row) → Numbered rs → FirstRow rs done n p → n ≡ 0 → Hold rs × done p
   zero-holds [] k f e = (tt, f .1)
@@ -97,14 +90,6 @@ module _ (rest : List Row) (done : ℕ → Type 0) (n p : ℕ) where
   same-front (r ∷ rs) other also h (inl f) = inl f
   same-front (r ∷ rs) other also h (inr f) = inr (f .0, same-front rs other also (λ k. h (f .0, k)) (f .1))
 
-  -- what comes of the whole comes of the front or of the rest
-  pub front-or-rest : (front : List Row) → FirstRow (front ++ rest) done n p
-      → ((Hold front → ⊥) × List·Memᴰ n (numbers front)) ⊎ (Hold front × FirstRow rest done n p)
-  front-or-rest [] f = inr (tt, f)
-  front-or-rest (r ∷ rs) (inl f) = inl (λ h. f .0 (h .0), List·Memᴰ·head (f .1))
-  front-or-rest (r ∷ rs) (inr f) =
-      ⊎-elim (λ g. inl (λ h. g .0 (h .1), List·Memᴰ·tail (g .1))) (λ g. inr ((f .0, g .0), g .1)) (front-or-rest rs (f .1))
-
 pub numbered-join : (front rest : List Row) → Numbered front → Numbered rest → Numbered (front ++ rest)
 numbered-join [] rest k l = l
 numbered-join (r ∷ rs) rest k l = (k .0, numbered-join rs rest (k .1) l)
@@ -113,16 +98,9 @@ pub single-join : (front rest : List Row) → Single front → Single rest → S
 single-join [] rest k l = l
 single-join (r ∷ rs) rest k l = (k .0, single-join rs rest (k .1) l)
 
--- ---- the numbers of a front
-
--- a fact of each row's number
-abbrev pub EachNumber : (ℕ → Type 0) → List Row → Type 0
-EachNumber P [] = Unit {0}
-EachNumber P (r ∷ rs) = P (r .number) × EachNumber P rs
-
 -- a front that does not hold gives one of its own numbers
 pub front-number : (P : ℕ → Type 0) (front rest : List Row) (done : ℕ → Type 0) (n p : ℕ) → EachNumber P front → (Hold front → ⊥)
     → FirstRow (front ++ rest) done n p → P n
 front-number P [] rest done n p k h f = absurd (h tt)
-front-number P (r ∷ rs) rest done n p k h (inl f) = subst P (sym (f .1)) (k .0)
+front-number P (r ∷ rs) rest done n p k h (inl f) = rw (f .1) (k .0)
 front-number P (r ∷ rs) rest done n p k h (inr f) = front-number P rs rest done n p (k .1) (λ g. h (f .0, g)) (f .1)

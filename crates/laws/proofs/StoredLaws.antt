@@ -31,13 +31,11 @@ from-word : (l : List ℕ) (at d : ℕ) (ws : List ℕ) (e : ℕ) → e < length
 unfolding storedFrom
 from-word l at d [] e h room = absurd (omega arith)
 from-word l at d (w ∷ ws) zero h room =
-    from-others (set l (at + d) w) at (suc d) ws (at + d + 0) (λ q. omega arith)
-    ∙ ap (λ (k : ℕ). getD (set l (at + d) w) k 0) (add-zero (at + d))
-    ∙ getD-set-same l (at + d) w 0 (omega arith)
+    rw add-zero (from-others (set l (at + d) w) at (suc d) ws (at + d) (λ q. omega arith)
+    ∙ getD-set-same l (at + d) w 0 (omega arith))
 from-word l at d (w ∷ ws) (suc e) h room =
     let same : at + d + suc e ≡ at + suc d + e = omega arith in
-    ap (λ (k : ℕ). getD (storedFrom (set l (at + d) w) at (suc d) ws) k 0) same
-    ∙ from-word (set l (at + d) w) at (suc d) ws e (omega arith) (omega (arith, length-set l (at + d) w))
+    rw same (from-word (set l (at + d) w) at (suc d) ws e (omega arith) (omega (arith, length-set l (at + d) w)))
 
 module _ (l : List ℕ) (at : ℕ) (ws : List ℕ) where
   pub stored-length : length (stored l at ws) ≡ length l

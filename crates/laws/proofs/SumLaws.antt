@@ -3,16 +3,14 @@
 -- Assumes nothing.
 use mathlib.Core.Path.{_≡_, refl, sym, ap, ap₂, _∙_}
 use mathlib.Core.Logic.{_⊎_, inl, inr, ⊎-elim, dite}
-use mathlib.Core.Bool.{Bool, true, false, cond}
 use mathlib.Core.List.{List, [], _∷_}
 use Prim.Native.Nat.{ℕ, zero, suc, _+_, _*_, _-_, _≤_, _<_, zero-le}
 use native.Mathlib.Nat.{le-refl, le-of-eq, le-step, add-le-add, add-zero, add-suc, zero-mul, suc-mul, mul-add, mul-zero}
 use native.Mathlib.Nat.{not-suc-le-zero, add-comm, add-sub-of-le}
-use native.Mathlib.Decide.{decLe, decLt}
-use native.Mathlib.Numerals.{add-one}
+use native.Mathlib.Decide.{ℕ-discrete, decLe, decLt}
+use native.Mathlib.Numerals.{add-one, one-add}
 use native.Mathlib.Omega.{arith}
-use borrow.Author.Tests.{eqb-true, eqb-false}
-use lib.Dec.{eqb}
+use borrow.Author.Tests.{eq-eqb, ne-eqb}
 use Rattle.laws.specs.Sums.{sum, same}
 
 -- the sum of f over the entries
@@ -24,11 +22,8 @@ total f (x ∷ xs) = f x + total f xs
 
 pub same-cases : (a b : ℕ) → ((a ≡ b) × (same a b ≡ 1)) ⊎ ((a ≡ b → ⊥) × (same a b ≡ 0))
 unfolding same
-same-cases a b = go (eqb a b) refl
-  where
-    go : (t : Bool) → eqb a b ≡ t → ((a ≡ b) × (cond {A = ℕ} t 1 0 ≡ 1)) ⊎ ((a ≡ b → ⊥) × (cond {A = ℕ} t 1 0 ≡ 0))
-    go true e = inl (eqb-true a b e, refl)
-    go false e = inr (eqb-false a b e, refl)
+same-cases a b =
+    dite (ℕ-discrete a b) (λ e. inl (e, rw (eq-eqb a b e))) (λ n. inr (n, rw (ne-eqb a b n)))
 
 pub same-equal : (a b : ℕ) → a ≡ b → same a b ≡ 1
 same-equal a b e = ⊎-elim (λ h. h .1) (λ h. absurd (h .0 e)) (same-cases a b)
@@ -109,11 +104,8 @@ pub sum-same : (s n : ℕ) → s < n → sum (λ k. same s k) n ≡ 1
 unfolding sum
 sum-same s zero h = absurd (not-suc-le-zero h)
 sum-same s (suc n) h =
-    ⊎-elim (λ e. ap₂ (λ (x y : ℕ). x + y) (none n (omega (arith, e .0))) (e .1))
-    (λ e. omega (arith, sum-same s n (omega (arith, e .0)), e .1)) (same-cases s n)
-  where
-    none : (m : ℕ) → m ≤ s → sum (λ k. same s k) m ≡ 0
-    none m l = sum-zero (λ k. same s k) m (λ k j. same-apart s k (λ e. omega arith))
+    ⊎-elim (λ (d, e). omega (arith, e, sum-zero (λ k. same s k) n (λ k j. same-apart s k (λ q. omega arith))))
+    (λ (d, e). omega (arith, sum-same s n (omega arith), e)) (same-cases s n)
 
 -- and none other
 pub sum-same-most : (s n : ℕ) → sum (λ k. same s k) n ≤ 1
@@ -126,9 +118,6 @@ pub sum-same-from-one : (s n : ℕ) → 1 ≤ s → s ≤ n → sum (λ k. same 
 sum-same-from-one s n low high =
     sum-ext (λ k. same s (1 + k)) (λ k. same s (suc k)) n (λ k l. ap (same s) (one-add k))
     ∙ omega (arith, sum-first (same s) n, sum-same s (suc n) (omega arith), same-apart s 0 (λ e. omega arith))
-  where
-    one-add : (k : ℕ) → 1 + k ≡ suc k
-    one-add k = omega arith
 
 -- a pattern that repeats after R terms
 pub sum-repeat : (f : ℕ → ℕ) (R : ℕ) → ((c : ℕ) → f (R + c) ≡ f c) → (m : ℕ) → sum f (m * R) ≡ m * sum f R
@@ -150,8 +139,7 @@ unfolding sum
 sum-some f zero h = absurd (not-suc-le-zero h)
 sum-some f (suc n) h =
     dite (decLe 1 (f n)) (λ l. (n, le-refl (suc n), l)) (λ l.
-    let r = sum-some f n (omega arith) in
-    (r .0, le-step (r .1), r .2))
+    let (i, h, p) = sum-some f n (omega arith) in (i, le-step h, p))
 
 -- the term with which a sum reaches k
 pub sum-reaches : (f : ℕ → ℕ) (n k : ℕ) → 1 ≤ k → k ≤ sum f n → (i : ℕ) × (i < n) × (sum f i < k) × (k ≤ sum f i + f i)
@@ -159,8 +147,7 @@ unfolding sum
 sum-reaches f zero k l h = absurd (omega arith)
 sum-reaches f (suc n) k l h =
     dite (decLt (sum f n) k) (λ b. (n, le-refl (suc n), b, h)) (λ b.
-    let r = sum-reaches f n k l (omega arith) in
-    (r .0, le-step (r .1), r .2, r .3))
+    let (i, h, p, q) = sum-reaches f n k l (omega arith) in (i, le-step h, p, q))
 
 -- of terms up to t, of which at most one is not 0
 pub sum-one : (f : ℕ → ℕ) (n t : ℕ) → ((i : ℕ) → i < n → f i ≤ t)
@@ -173,8 +160,7 @@ sum-one f (suc n) t small once =
   where
     earlier : 1 ≤ f n → (i : ℕ) → i < n → f i ≡ 0
     earlier l i h =
-        dite (decLe 1 (f i)) (λ k. absurd (omega (arith, once i n (le-step h) (le-refl (suc n)) k l)))
-        (λ k. omega arith)
+        let never : 1 ≤ f i → ⊥ = λ k. omega (arith, once i n (le-step h) (le-refl (suc n)) k l) in omega arith
 
 -- of terms that are at most others at rising places
 pub sum-among : (f g at : ℕ → ℕ) (m n : ℕ) → ((i j : ℕ) → i < j → j < m → at i < at j)

@@ -1,6 +1,6 @@
 -- `laws::gcd` meets its contract. The loop's invariant: whatever is the greatest common divisor of x and y is that of
 -- a and b. The measure is y. Assumes nothing.
-use mathlib.Core.Path.{_≡_, sym, subst}
+use mathlib.Core.Path.{_≡_}
 use Prim.Native.Nat.{ℕ}
 use native.Mathlib.Omega.{arith}
 use native.Mathlib.Nat.{mod-lt}
@@ -30,8 +30,7 @@ loop-again c = λ g p. c .before .loop .inv g (gcd-step (c .before .loop .x) (c 
 returns : tie.Need-returns Inv-loop μ-loop
 returns c =
     let ended : c .before .loop .y ≡ 0 = omega arith in
-    let x = c .before .loop .x in
-    c .before .loop .inv x (subst (λ (y : ℕ). IsGcd x y x) (sym ended) (gcd-zero x))
+    c .before .loop .inv _ (rw ended (gcd-zero (c .before .loop .x)))
 
 pub gcd-spec : {M : Type 1} → statement M
 gcd-spec = tie.close (tie.spec Inv-loop μ-loop loop-holds rem-rest loop-less loop-again returns)

@@ -17,7 +17,7 @@ use Rattle.terms.specs.Results.{wordsOf, resultSize, resultStart, result
 pub same-result : (v w : ℕ → ℕ) → ((d : ℕ) → d < resultSize → v d ≡ w d) → resultFrom v ≡ resultFrom w
 same-result v w h = cc (h 0 (omega arith), h 1 (omega arith), h 2 (omega arith), h 3 (omega arith))
 
--- what holds of each word's number holds of all that are below their count
+-- what holds of the place of each word holds of every place below their count
 each-place : (P : ℕ → Type 0) → P 0 → P 1 → P 2 → P 3 → (d : ℕ) → d < resultSize → P d
 each-place P slot base repetition age zero h = slot
 each-place P slot base repetition age (suc zero) h = base
@@ -25,7 +25,7 @@ each-place P slot base repetition age (suc (suc zero)) h = repetition
 each-place P slot base repetition age (suc (suc (suc zero))) h = age
 each-place P slot base repetition age (suc (suc (suc (suc d)))) h = absurd (omega arith)
 
--- and the other way round
+-- and rows of words that give one result agree on its words
 pub same-words : (v w : ℕ → ℕ) → resultFrom v ≡ resultFrom w → (d : ℕ) → d < resultSize → v d ≡ w d
 same-words v w e =
     each-place (λ d. v d ≡ w d) (ap (λ (r : Result). r .frame .slot) e) (ap (λ (r : Result). r .frame .base) e)

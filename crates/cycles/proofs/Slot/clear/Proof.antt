@@ -53,9 +53,6 @@ use Rattle.cycles.proofs.Slot.clear as clear
 use Rattle.cycles.proofs.Slot.clear.Statement as stated
 use Rattle.cycles.proofs.Slot.clear.Code as code
 
-abbrev Arg : Type 0
-Arg = RefT Slot × (ℕ × (ℕ × Unit {0}))
-
 abbrev stayed : Stays (clear.ended .signature .params) (clear.ended .kept)
 stayed = (stay-ref (0 ∷ []) tt (plain (λ _. T.the-row)), (stay-none (λ _. u32) yes, (stay-none (λ _. u32) yes, tt)))
 
@@ -69,7 +66,7 @@ module _ {M : Type 1} (𝓤 : URA M) (H : Heap 𝓤) (A : Atoms 𝓤) (at-mem : 
   taken-of s R b r = clause 𝓤 (λ ws. sem 𝓤 H A (lasts take.ended tt (s, (R, (b, tt))) ws)) (fact 𝓤 (FrameTaken s R b r))
 
 module _ {M : Type 1} (𝓤 : URA M) (H : Heap 𝓤) (A : Atoms 𝓤) (W : Given 𝓤 H A) (at-mem : Memory → SProp 𝓤) (run : Routine → Fun 𝓤) (κ : Lft) (q : Share) (b o : ℕ) (γ : GName) (s : Slot) (R c : ℕ) (R-fits : R < 2 ^ 32) (c-fits : c < 2 ^ 32) where
-  abbrev x : Arg
+  abbrev x : RefT Slot × (ℕ × (ℕ × Unit {0}))
   x = (record { ptr = (b, o); name = γ; now = s }, (R, (c, tt)))
 
   abbrev at : List Val × (List Val × (List Val × Unit {0}))

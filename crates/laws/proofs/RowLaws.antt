@@ -104,3 +104,16 @@ pub front-number : (P : ℕ → Type 0) (front rest : List Row) (done : ℕ → 
 front-number P [] rest done n p k h f = absurd (h tt)
 front-number P (r ∷ rs) rest done n p k h (inl f) = rw (f .1) (k .0)
 front-number P (r ∷ rs) rest done n p k h (inr f) = front-number P rs rest done n p (k .1) (λ g. h (f .0, g)) (f .1)
+
+-- a fact of each row's place, where the rows before it hold
+abbrev pub EachPlace : (ℕ → Type 0) → List Row → Type 0
+EachPlace P [] = Unit {0}
+EachPlace P (r ∷ rs) = ((p : ℕ) → r .place p → P p) × (r .holds → EachPlace P rs)
+
+-- what holds of each place of a front, and of what comes of the rest, holds of the place given
+pub place-has : (P : ℕ → Type 0) (front rest : List Row) (done : ℕ → Type 0) (n p : ℕ) → EachPlace P front
+    → (Hold front → FirstRow rest done n p → P p) → FirstRow (front ++ rest) done n p → P p
+place-has P [] rest done n p each last f = last tt f
+place-has P (r ∷ rs) rest done n p each last (inl f) = each .0 p (f .2)
+place-has P (r ∷ rs) rest done n p each last (inr f) =
+    place-has P rs rest done n p (each .1 (f .0)) (λ h. last (f .0, h)) (f .1)

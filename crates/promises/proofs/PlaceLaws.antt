@@ -1,11 +1,11 @@
 -- Every place that the rows allow is below 4,294,967,296, so the number and the place of an answer come apart again.
 -- Assumes nothing.
 use mathlib.Core.Path.{_≡_}
-use mathlib.Core.List.{List, [], _∷_, _++_}
-use mathlib.Core.Logic.{inl, inr}
+use mathlib.Core.List.{List, [], _∷_}
 use Prim.Native.Nat.{ℕ, _*_, _<_}
 use native.Mathlib.Omega.{arith}
-use Rattle.laws.specs.Rows.{Row, FirstRow, Hold}
+use Rattle.laws.specs.Rows.{FirstRow}
+use Rattle.laws.proofs.RowLaws.{place-has}
 use Rattle.terms.specs.declared.Answer.{Answer}
 use Rattle.terms.specs.Answers.{placeOf, packedOf, roomRow}
 use Rattle.terms.specs.Ranges.{settingRow}
@@ -26,36 +26,24 @@ Small p = p < 4294967296
 pub comes-apart : {Room : Type 0} (a : Answer) (r : ℕ) (y : Return Room) → Small (placeOf a) → r ≡ packedOf a → Halves r y → Tells a y
 comes-apart a r y small e h = (omega (arith, h .0), omega (arith, h .1))
 
--- each row's place is small where the rows before it hold
-abbrev SmallPlaces : List Row → Type 0
-SmallPlaces [] = Unit {0}
-SmallPlaces (r ∷ rs) = ((p : ℕ) → r .place p → Small p) × (r .holds → SmallPlaces rs)
-
-module _ (rest : List Row) (done : ℕ → Type 0) (n p : ℕ) where
-  small-place : (front : List Row) → SmallPlaces front → (Hold front → FirstRow rest done n p → Small p)
-      → FirstRow (front ++ rest) done n p → Small p
-  small-place [] each last f = last tt f
-  small-place (r ∷ rs) each last (inl f) = each .0 p (f .2)
-  small-place (r ∷ rs) each last (inr f) = small-place rs (each .1 (f .0)) (λ h. last (f .0, h)) (f .1)
-
 pub writing-small : (list : List ℕ) (lent n p : ℕ) → FirstRow (writingRows list lent) (λ q. q ≡ blocksFor (count list)) n p → Small p
 writing-small list lent n p =
-    small-place [] (λ q. q ≡ blocksFor (count list)) n p (writingRows list lent) (omega arith) (λ h f. omega arith)
+    place-has Small (writingRows list lent) [] (λ q. q ≡ blocksFor (count list)) n p (omega arith) (λ h f. omega arith)
 
 module _ (book : List ℕ) (lent n p : ℕ) where
   pub reading-small : FirstRow (readingRows book lent) (λ q. q ≡ signalsOf book) n p → Small p
   reading-small =
       let last = roomRow (signalSize * signalsOf book) lent ∷ [] in
-      small-place last (λ q. q ≡ signalsOf book) n p (bookRows book) (omega arith) (λ h.
-      small-place [] (λ q. q ≡ signalsOf book) n p last (omega (arith, sound-count book h))
+      place-has Small (bookRows book) last (λ q. q ≡ signalsOf book) n p (omega arith) (λ h.
+      place-has Small last [] (λ q. q ≡ signalsOf book) n p (omega (arith, sound-count book h))
       (λ r f. omega (arith, sound-count book h)))
 
   pub editor-small : FirstRow (editorRows book lent) (Needed (settingsIn book) (listIn book)) n p → Small p
   editor-small =
       let s = settingsIn book in
       let list = listIn book in
-      small-place (bytesRows s list lent) (Needed s list) n p (bookRows book) (omega arith) (λ h.
+      place-has Small (bookRows book) (bytesRows s list lent) (Needed s list) n p (omega arith) (λ h.
       let right = list-in-range book h in
-      small-place (signalRows s list) (Needed s list) n p (settingRow s ∷ roomRow (resultBytes list) lent ∷ [])
+      place-has Small (settingRow s ∷ roomRow (resultBytes list) lent ∷ []) (signalRows s list) (Needed s list) n p
       ((λ q w. omega (arith, setting-small s q w)), λ k. omega arith)
       (λ k f. omega (arith, signals-small s list right n p f)))

@@ -2,20 +2,21 @@
 -- frame is in trouble, each is in the slots needed, no slot is left out, and no cell has two.
 -- Assumes nothing.
 use mathlib.Core.Path.{_≡_, refl, sym, ap, subst, _∙_}
-use mathlib.Core.Logic.{⊎-elim, dite}
+use mathlib.Core.Logic.{inl, ⊎-elim, dite}
 use mathlib.Core.List.{List, List·Memᴰ}
 use Prim.Native.Nat.{ℕ, suc, _*_, _/_, _≤_, _<_, zero-le}
-use native.Mathlib.Nat.{le-of-eq}
-use native.Mathlib.Decide.{decLt}
+use native.Mathlib.Nat.{mod-eq-of-lt}
+use native.Mathlib.Decide.{decLe, decLt}
 use native.Mathlib.Omega.{arith}
 use Rattle.laws.specs.Lowest.{Between, EachTo}
 use Rattle.laws.specs.Sums.{sum, same}
 use Rattle.laws.proofs.SumLaws.{sum-longer, sum-reaches}
 use Rattle.terms.specs.Ranges.{Repetition, FrameInRange}
 use Rattle.terms.specs.Lists.{count, groupOf, groups}
-use Rattle.terms.proofs.RepetitionLaws.{repetition-positive}
+use Rattle.terms.proofs.RepetitionLaws.{repetition-positive, repetition-most}
 use Rattle.cycles.specs.Frames.{Sends}
 use Rattle.cycles.specs.Loads.{slotsFor}
+use Rattle.cycles.proofs.FrameLaws.{remainder-named}
 use Rattle.filling.specs.declared.UnitFrame.{UnitFrame}
 use Rattle.filling.specs.Ordered.{ordered}
 use Rattle.filling.specs.Runs.{Placed, State, start}
@@ -26,7 +27,7 @@ use Rattle.filling.proofs.RunLaws.{start-good}
 use Rattle.filling.proofs.CellLaws.{Past}
 use Rattle.filling.proofs.GroupLaws.{loadOf, last, Untroubled, untroubled}
 use Rattle.filling.proofs.PlacedLaws.{SoonerAt, within, groupAt, place-from, place-for, places-sooner}
-use Rattle.filling.proofs.PlacedLaws.{Leads, UsedBefore, InSlots, places-in, places-lead, passed-used, slots-used}
+use Rattle.filling.proofs.PlacedLaws.{UsedBefore, InSlots, places-in, places-apart, passed-used, slots-used}
 
 module _ (list : List ℕ) (R : ℕ → ℕ) where
   abbrev m : ℕ
@@ -124,21 +125,12 @@ module _ (list : List ℕ) (R : ℕ → ℕ) where
         dite (decLt (owner p) (owner q)) (λ l. absurd (omega (arith, e, filled-groups p q a b l))) (λ l.
         dite (decLt (owner q) (owner p)) (λ k. absurd (omega (arith, e, filled-groups q p b a k))) (λ k. omega arith))
 
-    in-turn : InTurn (Leads group) (filled list R)
-    in-turn = places-lead group before load filled-untroubled (order-sooner R m)
-
     pub filled-apart : (p q : Placed) → In p → In q → (k c : ℕ) → Sends (p .frame) k c → Sends (q .frame) k c → p ≡ q
     filled-apart p q a b k c x y =
         let e = filled-one-group p q a b (x .0 ∙ sym (y .0)) in
         ⊎-elim (λ s. s)
-        (λ s. absurd (⊎-elim (λ l. l .apart e k c x y) (λ l. l .apart (sym e) k c y x) s)) (two-in-turn in-turn a b)
-
-    -- "A frame goes to the current slot .. else the next slot is begun."
-    pub filled-onward : (p q : Placed) → In p → In q → owner p ≡ owner q → SoonerAt p q
-        → p .frame .slot ≤ q .frame .slot
-    filled-onward p q a b e s =
-        ⊎-elim (λ d. le-of-eq (ap (λ (x : Placed). x .frame .slot) d))
-        (λ d. ⊎-elim (λ l. l .onward e) (λ l. absurd (sooner-apart s (l .sooner))) d) (two-in-turn in-turn a b)
+        (λ s. absurd (⊎-elim (λ l. l e k c x y) (λ l. l (sym e) k c y x) s))
+        (two-in-turn (places-apart group before load filled-untroubled) a b)
 
     -- every cell of a group's slots before a place is in use by a place of the group whose frame goes before
     pub filled-passed : (p q : Placed) → In p → In q → owner q ≡ owner p → (c : ℕ) → c < 64
@@ -148,3 +140,15 @@ module _ (list : List ℕ) (R : ℕ → ℕ) where
         let behind : before (owner p) < k = subst (λ (g : ℕ). before g < k) e (in-slots q b .past) in
         ⊎-elim (λ g. absurd (⊎-elim (λ h. omega (arith, h, behind)) (λ h. omega (arith, h .0, behind)) g)) (λ u. u)
         (passed-used group before load filled-untroubled (order-sooner R m) (λ r i. i) a k c l w)
+
+    -- "A frame goes to the current slot .. else the next slot is begun": else a cell of q would be in use before p
+    pub filled-onward : (p q : Placed) → In p → In q → owner p ≡ owner q → SoonerAt p q
+        → p .frame .slot ≤ q .frame .slot
+    filled-onward p q a b e s =
+        dite (decLe (p .frame .slot) (q .frame .slot)) (λ l. l) (λ n.
+        let f = in-slots q b .frame in
+        let small : q .frame .base < 64 = omega (arith, f .base, repetition-most _ (f .repetition)) in
+        let u = filled-passed p q a b (sym e) (q .frame .base) small (inl (omega arith)) in
+        let starts = remainder-named (f .repetition) (f .base) (mod-eq-of-lt (f .base)) in
+        let one = filled-apart (u .place) q (u .among) b _ _ (u .sends) (refl, starts) in
+        absurd (sooner-apart s (rw one at (u .sooner))))

@@ -1,17 +1,15 @@
--- The places that filling gives: one for each frame, in the slots of its group; of two in one group the later has no
--- earlier slot and no cell of the other; every cell before a place is in use by a frame before; no slot is left out.
+-- The places that filling gives: one for each frame, in the slots of its group; two in one group have no cell in common;
+-- every cell before a place is in use by a frame before; no slot is left out.
 -- Assumes nothing.
 use mathlib.Core.Path.{_≡_, refl, sym, ap, subst}
 use mathlib.Core.Logic.{_⊎_, inl, inr, ⊎-elim, dite}
 use mathlib.Core.List.{List, [], _∷_, List·Memᴰ, List·Memᴰ·head, List·Memᴰ·tail, List·Memᴰ·not-nil}
 use Prim.Native.Nat.{ℕ, _≤_, _<_}
-use native.Mathlib.Nat.{mod-eq-of-lt}
-use native.Mathlib.Decide.{ℕ-discrete, decLe}
+use native.Mathlib.Decide.{ℕ-discrete}
 use native.Mathlib.Omega.{arith}
 use Rattle.terms.specs.declared.Frame.{Frame}
 use Rattle.terms.specs.Ranges.{FrameInRange}
 use Rattle.cycles.specs.Frames.{Sends}
-use Rattle.cycles.proofs.FrameLaws.{remainder-named}
 use Rattle.filling.specs.declared.UnitFrame.{UnitFrame}
 use Rattle.filling.specs.Runs.{Placed, State, placed, after}
 use Rattle.filling.specs.Filled.{fillFrom}
@@ -67,11 +65,9 @@ module _ (group : ℕ → ℕ) where
   places-sooner (ahead {x = f} {l = fs} a t) states =
       ahead (λ q m. a (turnOf q) (place-from fs (stepped group states f) m)) (places-sooner t (stepped group states f))
 
-  -- place p comes before place q: where they are of one group, q has no earlier slot and no cell of p
-  pub record Leads (p q : Placed) : Type 0 where
-    pub sooner : SoonerAt p q
-    pub onward : groupAt p ≡ groupAt q → p .frame .slot ≤ q .frame .slot
-    pub apart : groupAt p ≡ groupAt q → (k c : ℕ) → Sends (p .frame) k c → Sends (q .frame) k c → ⊥
+  -- where places p and q are of one group, they have no cell in common
+  abbrev pub Apart : (p q : Placed) → Type 0
+  Apart p q = groupAt p ≡ groupAt q → (k c : ℕ) → Sends (p .frame) k c → Sends (q .frame) k c → ⊥
 
   -- cycle c of slot k is in use by a place of p's group whose frame goes before p's
   pub record UsedBefore (places : List Placed) (p : Placed) (k c : ℕ) : Type 0 where
@@ -103,7 +99,7 @@ module _ (group : ℕ → ℕ) where
         })
     places-in (goes h u) (List·Memᴰ·tail m) = places-in u m
 
-    -- ---- no earlier slot, and no cell twice
+    -- ---- no cell twice
 
     -- no place sends a cell that its group's run has gone over
     unsent : {states : ℕ → State} {fs : List UnitFrame} → Going states fs → {p : Placed} → Among states fs p
@@ -116,38 +112,17 @@ module _ (group : ℕ → ℕ) where
         (stepped-each group (λ x s. Gone (states x) k c → Gone s k c) states f
         (gone-stays k c (current group states f) f) (λ x n y. y) (groupAt p) g)
 
-    leads : (states : ℕ → State) (f : UnitFrame) {fs : List UnitFrame} → Going (stepped group states f) fs
-        → {q : Placed} → Among (stepped group states f) fs q → Sooner f (turnOf q) → Leads (placeOf states f) q
-    leads states f u {q} m a =
-        record {
-          sooner = a;
-          onward = λ e.
-              dite (decLe (p .frame .slot) (q .frame .slot)) (λ l. l)
-              (λ l. absurd (later e (q .frame .slot) (q .frame .base) (inl (omega arith)) starts));
-          apart = λ e k c x y. later e k c (sent-gone k c (current group states f) f x) y;
-        }
-      where
-        p : Placed
-        p = placeOf states f
-
-        later : groupAt p ≡ groupAt q → (k c : ℕ) → Gone (after (current group states f) f) k c
-            → Sends (q .frame) k c → ⊥
-        later e k c g =
-            unsent u m k c
-            (stepped-each group (λ x s. groupAt p ≡ x → Gone s k c) states f (λ d. g)
-            (λ x n d. absurd (n (sym d))) (groupAt q) e)
-
-        starts : Sends (q .frame) (q .frame .slot) (q .frame .base)
-        starts =
-            let i = places-in u m .frame in
-            (refl, remainder-named (i .repetition) (i .base) (mod-eq-of-lt (i .base)))
-
-    pub places-lead : {states : ℕ → State} {fs : List UnitFrame} → Going states fs → InTurn Sooner fs
-        → InTurn Leads (fillFrom group states fs)
+    pub places-apart : {states : ℕ → State} {fs : List UnitFrame} → Going states fs
+        → InTurn Apart (fillFrom group states fs)
     unfolding fillFrom
-    places-lead (ended r) t = none
-    places-lead (goes {states} {f} {fs} h u) (ahead a t) =
-        ahead (λ q m. leads states f u m (a (turnOf q) (place-from fs (stepped group states f) m))) (places-lead u t)
+    places-apart (ended r) = none
+    places-apart (goes {states} {f} h u) =
+        ahead
+        (λ q m e k c sent.
+        unsent u m k c
+        (stepped-each group (λ x s. group (f .signal) ≡ x → Gone s k c) states f
+        (λ d. sent-gone k c (current group states f) f sent) (λ x n d. absurd (n (sym d))) (groupAt q) e))
+        (places-apart u)
 
     -- ---- no cell and no slot left out
 

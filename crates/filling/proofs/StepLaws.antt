@@ -16,6 +16,7 @@ use Rattle.cycles.specs.Frames.{Names}
 use Rattle.cycles.specs.Slots.{Free, Fresh, FirstFree, AllFree, FrameTaken}
 use Rattle.cycles.proofs.BitLaws.{bit-lt, bit-none}
 use Rattle.cycles.proofs.FrameLaws.{named-remainder, remainder-named}
+use Rattle.cycles.proofs.Unique.{first-free-unique}
 use Rattle.filling.specs.declared.UnitFrame.{UnitFrame}
 use Rattle.filling.specs.declared.run.Current.{Current}
 use Rattle.filling.specs.declared.run.Step.the-variants.{At}
@@ -31,16 +32,12 @@ use Rattle.filling.proofs.CycleLaws.{first-free}
 first-alike : (cycles : Cycles) (s : Slot) → Holds cycles (s .free) → (r : ℕ) → FirstFree s r → r ≡ firstFree cycles
 first-alike cycles s h r f =
     let w = first-free cycles in
-    dite (decLt r (firstFree cycles))
-    (λ l.
-    let small : r < 64 = omega (arith, w .within) in
-    absurd (w .before r zero-le l (omega (arith, h r small, f .found small))))
-    (λ n.
-    dite (decLt (firstFree cycles) r)
-    (λ l.
-    let small : firstFree cycles < 64 = omega (arith, f .within) in
-    absurd (f .before (firstFree cycles) l (omega (arith, h (firstFree cycles) small, w .found small))))
-    (λ m. omega arith))
+    first-free-unique s r (firstFree cycles) f
+    (record {
+      within = w .within;
+      before = λ c l e. w .before c zero-le l (omega (arith, w .within, h c (omega (arith, w .within)), e));
+      found = λ l. omega (arith, h (firstFree cycles) l, w .found l);
+    })
 
 -- nothing is free where a group begins
 pub start-holds : (k : ℕ) (c : Current) → c .begun ≡ k → c .slot .free ≡ 0 → Holding (c .slot .unit) (start k) c

@@ -9,7 +9,7 @@ use native.Mathlib.Omega.{arith}
 use Rattle.laws.specs.Lowest.{Between, EachTo}
 use Rattle.laws.specs.Sums.{sum, same}
 use Rattle.laws.proofs.SumLaws.{same-most, sum-le, sum-ext, sum-const, sum-times, sum-exchange, sum-same-most}
-use Rattle.laws.proofs.SumLaws.{sum-among}
+use Rattle.laws.proofs.SumLaws.{sum-more, sum-among}
 use Rattle.terms.specs.Ranges.{Repetition}
 use Rattle.terms.proofs.RepetitionLaws.{repetition-positive}
 use Rattle.cycles.specs.Loads.{slotsFor}
@@ -56,6 +56,12 @@ module _ (group R : ℕ → ℕ) (m : ℕ) where
       let each = sum-le need (λ k. sum (ofGroup k) m) g (λ k l. omega (arith, load-members k)) in
       let one = sum-le (λ i. sum (λ k. ofGroup k i) g) (λ i. 1) m (λ i l. sum-same-most (group (1 + i)) g) in
       omega (arith, each, sum-exchange ofGroup m g, one, sum-const 1 m)
+
+  -- those of group g come to those before it
+  pub slots-next : (g : ℕ) {needed r : ℕ} → needed ≡ slotsBefore group R m g → r ≡ slotsFor (groupLoad group R m g)
+      → (needed + r ≡ slotsBefore group R m (g + 1)) × (needed + r ≤ m)
+  slots-next g n e =
+      let next = sum-more (λ k. slotsFor (groupLoad group R m k)) g in (omega arith, omega (arith, needed-most (g + 1)))
 
 -- ---- fewer signals with larger repetitions
 

@@ -5,7 +5,6 @@ use mathlib.Core.List.{List}
 use Prim.Native.Nat.{ℕ, _+_, _-_, _≤_}
 use native.Mathlib.Omega.{arith}
 use borrow.Author.Needs.{needs}
-use lib.ListN.{length}
 use Rattle.laws.proofs.SumLaws.{sum-none}
 use Rattle.terms.specs.Lists.{count, groupOf, groups}
 use Rattle.cycles.specs.Loads.{slotsFor}
@@ -23,13 +22,12 @@ before list words = slotsBefore (groupOf list) (repetitionIn words) (count list)
 abbrev Inv-loop : tie.InvT-loop
 Inv-loop list repetitions loads begun₀ needed₀ g₀ begun needed g =
     Front (λ h x. x ≡ before list repetitions h) begun₀ begun g × (needed ≡ before list repetitions g) × (g ≤ groups)
-    × (length begun₀ ≡ groups)
 
 abbrev μ-loop : tie.MeasureT-loop
 μ-loop list repetitions loads begun₀ needed₀ g₀ begun needed g = groups - g
 
 loop-holds : tie.Need-loop-holds Inv-loop μ-loop
-loop-holds c = (front-none _ _, sym (sum-none _), omega arith, omega arith)
+loop-holds c = (front-none _ _, sym (sum-none _), omega arith)
 
 -- the group's slots come to those before it
 more : (k : tie.After-slots Inv-loop μ-loop)
@@ -50,7 +48,7 @@ loop-again : tie.Need-loop-again Inv-loop μ-loop
 loop-again c =
     let l = c .before .before in
     let v = l .loop .inv in
-    (front-next _ _ (l .loop .begun) (l .loop .g) _ (v .0) (omega arith) (v .1), more c .0, omega arith, v .3)
+    (front-next _ _ (l .loop .begun) (l .loop .g) _ (v .0) (omega arith) (v .1), more c .0, omega arith)
 
 returns : tie.Need-returns Inv-loop μ-loop
 returns c =

@@ -27,51 +27,38 @@ tallied-added (added q h) s l = refl
 tallied-added (past q h) s l = absurd (omega arith)
 tallied-added (other n) s l = absurd (n s)
 
-module _ (group R : ℕ → ℕ) (m : ℕ) where
-  -- ---- the loads
-
+module _ (group R : ℕ → ℕ) where
   -- what signal 1 + i adds to the load of a group
   abbrev share : (g i : ℕ) → ℕ
   share g i = same (group (1 + i)) g * (64 / R (1 + i))
 
   -- the first i signals are tallied
   pub record Tallying (loads : List ℕ) (i : ℕ) : Type 0 where
-    pub last : i ≤ m
     pub whole : length loads ≡ groups
     pub tallied : (g : ℕ) → g < groups → getD loads g 0 ≡ groupLoad group R i g
 
   pub tallying-none : Tallying (replicate groups 0) 0
   tallying-none =
       record {
-        last = omega arith;
         whole = length-replicate {A = ℕ} groups 0;
         tallied = λ g h. getD-replicate groups g 0 0 h ∙ sym (sum-none (share g));
       }
 
-  module _ (loads : List ℕ) (i : ℕ) (t : Tallying loads i) where
-    -- signal 1 + i is of group g
-    module _ (g load : ℕ) (h : i < m) (few : m ≤ 600) (here : g < groups) (own : group (1 + i) ≡ g)
-        (seven : Repetition (R (1 + i))) (more : Tallied (getD loads g 0) (R (1 + i)) load)
-      where
-        pub tallying-next : Tallying (set loads g load) (i + 1)
-        tallying-next =
-            let others : (k : ℕ) → k < groups → (k ≡ g → ⊥) → getD (set loads g load) k 0 ≡ groupLoad group R (i + 1) k =
-            λ k l n.
+  -- signal 1 + i is of group g
+  pub tallying-next : (loads : List ℕ) (i g load : ℕ) → Tallying loads i → i < 600 → g < groups → group (1 + i) ≡ g
+      → Repetition (R (1 + i)) → Tallied (getD loads g 0) (R (1 + i)) load → Tallying (set loads g load) (i + 1)
+  tallying-next loads i g load t few here own seven more =
+      let old = t .tallied g here in
+      let next = sum-more (share g) i in
+      let one = ap (λ (n : ℕ). n * (64 / R (1 + i))) (same-equal (group (1 + i)) g own) in
+      let its : getD (set loads g load) g 0 ≡ groupLoad group R (i + 1) g =
+      getD-set-same loads g load 0 (omega (arith, t .whole))
+      ∙ tallied-added more seven (omega (arith, load-most group R (i + 1) g))
+      ∙ omega arith in
+      record {
+        whole = length-set loads g load ∙ t .whole;
+        tallied = λ k l.
+            dite (ℕ-discrete k g) (λ e. rw e its) (λ n.
             let none = ap (λ (x : ℕ). x * (64 / R (1 + i))) (same-apart (group (1 + i)) k (λ e. n (sym e ∙ own))) in
-            getD-set-other loads g k load 0 n ∙ t .tallied k l ∙ omega (arith, sum-more (share k) i) in
-            let one = ap (λ (n : ℕ). n * (64 / R (1 + i))) (same-equal (group (1 + i)) g own) in
-            let next = sum-more (share g) i in
-            let its : getD (set loads g load) g 0 ≡ groupLoad group R (i + 1) g =
-            getD-set-same loads g load 0 (omega (arith, t .whole))
-            ∙ tallied-added more seven (omega (arith, t .tallied g here, load-most group R (i + 1) g))
-            ∙ omega (arith, t .tallied g here) in
-            record {
-              last = omega arith;
-              whole = length-set loads g load ∙ t .whole;
-              tallied = λ k l. dite (ℕ-discrete k g) (λ e. rw e its) (others k l);
-            }
-
-    pub tallying-all : m ≤ i → (g : ℕ) → g < groups → getD loads g 0 ≡ groupLoad group R m g
-    tallying-all h g l =
-        let all : i ≡ m = omega (arith, t .last) in
-        t .tallied g l ∙ ap (λ (n : ℕ). groupLoad group R n g) all
+            getD-set-other loads g k load 0 n ∙ t .tallied k l ∙ omega (arith, sum-more (share k) i));
+      }

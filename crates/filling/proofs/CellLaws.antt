@@ -66,6 +66,7 @@ module _ (k c : ℕ) where
       gone-or-sent l (inr e) =
           dite (ℕ-discrete (goesTo s .cycles c) 0)
           (λ z.
-          ⊎-elim (λ q. inr (sym (e .0), remainder-named (fits .seven) (fits .below) (sym (q .0))))
+          let r = fits .inside .frame in
+          ⊎-elim (λ q. inr (sym (e .0), remainder-named (r .repetition) (r .base) (sym (q .0))))
           (λ q. absurd (e .1 (omega (arith, z, q .1)))) (same-cases (firstFree (goesTo s .cycles)) (c % f .repetition)))
           (λ n. inl (there-gone (goes-case s) l (inr (e .0, n))))

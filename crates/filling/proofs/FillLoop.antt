@@ -4,7 +4,7 @@
 use mathlib.Core.Path.{_≡_, refl, sym, subst, _∙_}
 use mathlib.Core.List.{List, [], _∷_, _++_, append-nil, append-assoc}
 use mathlib.Core.List.{List·Memᴰ, List·Memᴰ·not-nil, List·Memᴰ·head, Memᴰ·append-left, Memᴰ·append-right}
-use Prim.Native.Nat.{ℕ, _+_, _≤_, _<_}
+use Prim.Native.Nat.{ℕ, _+_, _*_, _≤_, _<_}
 use native.Mathlib.Nat.{le-refl}
 use native.Mathlib.Numerals.{add-one}
 use native.Mathlib.Omega.{arith}
@@ -26,7 +26,6 @@ use Rattle.filling.specs.Private.{Holding, Stepped, Paintable, placedAt,
 use Rattle.filling.specs.Private.Stepped.{goes, trouble}
 use Rattle.filling.proofs.RunLaws.{Fits, goes-case, goes-next}
 use Rattle.filling.proofs.GroupLaws.{stepped, stepped-each, Untroubled}
-use Rattle.filling.proofs.GroupLaws.Untroubled.{goes as goes-well}
 use Rattle.filling.proofs.PlacedLaws.{within}
 use Rattle.filling.proofs.LoadLaws.{needed-most}
 use Rattle.filling.proofs.FilledLaws.{before, load, states, frames}
@@ -44,14 +43,7 @@ held-as : {u : ℕ} {s : State} {c d : Current} → Holding u s c → d .begun �
 held-as h b f = record { unit = refl; begun = b ∙ h .begun; cycles = rw f (h .cycles) }
 
 no-trouble : {u k load : ℕ} {s : State} {f : UnitFrame} → Fits k load s f → Stepped u s f Trouble → ⊥
-no-trouble h (trouble n) = n (record { below = h .below; free = λ c l e. h .free c e })
-
--- the first of frames that are in no trouble, and the rest
-first-and-rest : {group first load : ℕ → ℕ} {now : ℕ → State} {f : UnitFrame} {fs : List UnitFrame}
-    → Untroubled group first load now (f ∷ fs)
-    → Fits (first (group (f .signal))) (load (group (f .signal))) (now (group (f .signal))) f
-    × Untroubled group first load (stepped group now f) fs
-first-and-rest (goes-well h u) = (h, u)
+no-trouble h (trouble n) = n (record { below = h .inside .frame .base; free = λ c l e. h .free c e })
 
 -- the next frame, of those in front of an array
 pub next-frame : (list : List ℕ) (R : ℕ → ℕ) (array : List UnitFrame) (i : ℕ) (d : UnitFrame)
@@ -75,7 +67,6 @@ module _ (s : Settings) (list words cells₀ results₀ : List ℕ) where
 
   -- the first i frames are placed and shown, and placing the rest is what is left of the filling
   pub record Filling (cells results begun free : List ℕ) (i : ℕ) : Type 0 where
-    pub last : i ≤ count list
     pub now : ℕ → State
     pub places : List Placed
     pub left : places ++ fillFrom group now (drop i fs) ≡ filled list R
@@ -94,17 +85,16 @@ module _ (s : Settings) (list words cells₀ results₀ : List ℕ) where
     pub state : State
     pub holds : (u : ℕ) → u ≡ group (f .signal) → Holding u state (currentIn begun free u)
     pub untroubled : {u : ℕ} → Stepped u state f Trouble → ⊥
-    pub paintable : {u : ℕ} (x : Frame) (c : Current) → Stepped u state f (At x c) → Paintable cells x
     pub goes-on : {u : ℕ} (x : Frame) (c : Current) → Stepped u state f (At x c) → u ≡ group (f .signal)
-        → (cells′ results′ : List ℕ) → FrameShown s list (placedAt (f .signal) x) cells results cells′ results′
-        → Filling cells′ results′ (set begun u (c .begun)) (set free u (c .slot .free)) (i + 1)
+        → Paintable cells x
+        × ((cells′ results′ : List ℕ) → FrameShown s list (placedAt (f .signal) x) cells results cells′ results′
+        → Filling cells′ results′ (set begun u (c .begun)) (set free u (c .slot .free)) (i + 1))
 
   module _ (begun₀ : List ℕ) (runs : Runnable s list words begun₀ cells₀ results₀) where
     -- nothing is placed, and nothing is free
     pub filling-none : length begun₀ ≡ groups → Filling cells₀ results₀ begun₀ (replicate groups 0) 0
     filling-none l =
         record {
-          last = omega arith;
           now = states list R;
           places = [];
           left = refl;
@@ -134,9 +124,8 @@ module _ (s : Settings) (list words cells₀ results₀ : List ℕ) where
         abbrev later : ℕ → State
         later = stepped group (g .now) f
 
-        going : Fits (before list R own) (load list R own) (g .now own) f
-            × Untroubled group (before list R) (load list R) later (drop (i + 1) fs)
-        going = first-and-rest (rw is at (g .untroubled))
+        going : Untroubled group (before list R) (load list R) (g .now) (f ∷ drop (i + 1) fs)
+        going = rw is at (g .untroubled)
 
         -- it is placed behind those shown
         whole : (g .places ++ p ∷ []) ++ fillFrom group later (drop (i + 1) fs) ≡ filled list R
@@ -158,24 +147,11 @@ module _ (s : Settings) (list words cells₀ results₀ : List ℕ) where
         -- the numbers of slots are small
         own-begun : getD begun own 0 ≤ 600
         own-begun =
-            omega (
-              arith,
-              g .holds own own-group .begun,
-              goes-next (goes-case (g .now own)),
-              in-needed p here .slot,
-              needed-most group R (count list) groups,
-              runs .fillable .grouped .right .few,
-            )
+            let most = needed-most group R (count list) groups in
+            let near = goes-next (goes-case (g .now own)) in
+            omega (arith, g .holds own own-group .begun, in-needed p here .slot, runs .fillable .grouped .right .few)
 
         -- the step placed the frame at x, and left the slot c
-        x-paintable : {u : ℕ} (x : Frame) (c : Current) → Stepped u (g .now own) f (At x c) → Paintable cells x
-        x-paintable x c (goes n t) =
-            let r = in-segment p here in
-            record {
-              frame = within r (le-refl _);
-              room = omega (arith, r .slot, runs .fillable .cells, g .table .same-length);
-            }
-
         holds-next : {u : ℕ} (c : Current) → Holding u (after (g .now own) f) c → (k : ℕ) → k < groups
             → Holding k (later k) (currentIn (set begun own (c .begun)) (set free own (c .slot .free)) k)
         holds-next c t =
@@ -190,38 +166,42 @@ module _ (s : Settings) (list words cells₀ results₀ : List ℕ) where
             (getD-set-other free own n (c .slot .free) 0 d))
 
         filling-next : {u : ℕ} (x : Frame) (c : Current) → Stepped u (g .now own) f (At x c) → u ≡ own
-            → (cells′ results′ : List ℕ) → FrameShown s list (placedAt (f .signal) x) cells results cells′ results′
-            → Filling cells′ results′ (set begun u (c .begun)) (set free u (c .slot .free)) (i + 1)
-        filling-next x c (goes n t) e cells′ results′ q =
-            let apart = filled-apart list R (runs .fillable .grouped .seven) in
-            rw e
-            (record {
-              last = omega arith;
-              now = later;
-              places = g .places ++ p ∷ [];
-              left = whole;
-              untroubled = going .1;
-              many-begun = length-set begun own (c .begun) ∙ g .many-begun;
-              many-free = length-set free own (c .slot .free) ∙ g .many-free;
-              holds = holds-next c t;
-              table =
-                  cells-more (g .table) p (λ y m. in-segment y (among y m))
-                  (λ y k d m. apart y p (earlier y m) here k d) cells′ (q .painted);
-              shown =
-                  results-more (g .shown) p (runs .fillable .results) (λ y m. filled-own list R y (among y m) .0)
-                  (λ y m. filled-only list R y p (earlier y m) here) results′ (q .resulted);
-            })
+            → Paintable cells x
+            × ((cells′ results′ : List ℕ) → FrameShown s list (placedAt (f .signal) x) cells results cells′ results′
+            → Filling cells′ results′ (set begun u (c .begun)) (set free u (c .slot .free)) (i + 1))
+        filling-next x c (goes n t) e =
+            let r = in-segment p here in
+            let room : 64 * x .slot ≤ length cells = omega (arith, r .slot, runs .fillable .cells, g .table .same-length) in
+            let apart = filled-apart list R (runs .fillable .grouped .seven) in (
+              record { frame = within r (le-refl _); room = room },
+              λ cells′ results′ q.
+                  rw e
+                  (record {
+                    now = later;
+                    places = g .places ++ p ∷ [];
+                    left = whole;
+                    untroubled = going .1;
+                    many-begun = length-set begun own (c .begun) ∙ g .many-begun;
+                    many-free = length-set free own (c .slot .free) ∙ g .many-free;
+                    holds = holds-next c t;
+                    table =
+                        cells-more (g .table) p (λ y m. in-segment y (among y m))
+                        (λ y k d m. apart y p (earlier y m) here k d) cells′ (q .painted);
+                    shown =
+                        results-more (g .shown) p (runs .fillable .results) (λ y m. filled-own list R y (among y m) .0)
+                        (λ y m. filled-only list R y p (earlier y m) here) results′ (q .resulted);
+                  }),
+            )
 
         pub at-frame : AtFrame cells results begun free i f
         at-frame =
             record {
               in-groups = own-group;
               few-begun = own-begun;
-              seven = going .0 .seven;
+              seven = going .0 .inside .frame .repetition;
               state = g .now own;
               holds = λ u e. rw e (g .holds own own-group);
               untroubled = no-trouble (going .0);
-              paintable = x-paintable;
               goes-on = filling-next;
             }
 

@@ -23,11 +23,11 @@ use Rattle.filling.specs.Runs.{Placed, State, start}
 use Rattle.filling.specs.Filled.{groupLoad, slotsBefore, needed, framesFrom, filled}
 use Rattle.filling.proofs.OrderLaws.{InTurn, two-in-turn, sooner-apart, ordered-total, ordered-from, ordered-in}
 use Rattle.filling.proofs.OrderLaws.{frames-own, frames-in, frames-total, order-sooner, order-seven}
-use Rattle.filling.proofs.RunLaws.{start-good}
+use Rattle.filling.proofs.RunLaws.{start-good, InSlots}
 use Rattle.filling.proofs.CellLaws.{Past}
 use Rattle.filling.proofs.GroupLaws.{loadOf, last, Untroubled, untroubled}
 use Rattle.filling.proofs.PlacedLaws.{SoonerAt, within, groupAt, place-from, place-for, places-sooner}
-use Rattle.filling.proofs.PlacedLaws.{UsedBefore, InSlots, places-in, places-apart, passed-used, slots-used}
+use Rattle.filling.proofs.PlacedLaws.{UsedBefore, places-in, places-apart, passed-used, slots-used}
 
 module _ (list : List ℕ) (R : ℕ → ℕ) where
   abbrev m : ℕ
@@ -94,8 +94,8 @@ module _ (list : List ℕ) (R : ℕ → ℕ) where
     abbrev owner : Placed → ℕ
     owner p = groupAt group p
 
-    in-slots : (p : Placed) → In p → InSlots group before load p
-    in-slots p a = places-in group before load filled-untroubled a
+    in-slots : (p : Placed) → In p → InSlots (before (owner p)) (load (owner p)) (p .frame)
+    in-slots p a = places-in group before load frames states filled-untroubled a
 
     -- the slots of a group are behind those of the groups before it
     groups-apart : (g h : ℕ) → g < h → last group before load g ≤ before h
@@ -111,7 +111,7 @@ module _ (list : List ℕ) (R : ℕ → ℕ) where
     pub filled-slots : (k : ℕ) → Between 1 (needed list R) k → (p : Placed) × In p × (p .frame .slot ≡ k)
     filled-slots k b =
         let r = sum-reaches (λ g. slotsFor (load g)) groups k (b .0) (b .1) in
-        slots-used group before load filled-untroubled (r .0) k (r .2) (r .3)
+        slots-used group before load frames states filled-untroubled (r .0) k (r .2) (r .3)
 
     -- ---- two places
 
@@ -130,7 +130,7 @@ module _ (list : List ℕ) (R : ℕ → ℕ) where
         let e = filled-one-group p q a b (x .0 ∙ sym (y .0)) in
         ⊎-elim (λ s. s)
         (λ s. absurd (⊎-elim (λ l. l e k c x y) (λ l. l (sym e) k c y x) s))
-        (two-in-turn (places-apart group before load filled-untroubled) a b)
+        (two-in-turn (places-apart group before load frames states filled-untroubled) a b)
 
     -- every cell of a group's slots before a place is in use by a place of the group whose frame goes before
     pub filled-passed : (p q : Placed) → In p → In q → owner q ≡ owner p → (c : ℕ) → c < 64
@@ -139,7 +139,7 @@ module _ (list : List ℕ) (R : ℕ → ℕ) where
         let k = q .frame .slot in
         let behind : before (owner p) < k = subst (λ (g : ℕ). before g < k) e (in-slots q b .past) in
         ⊎-elim (λ g. absurd (⊎-elim (λ h. omega (arith, h, behind)) (λ h. omega (arith, h .0, behind)) g)) (λ u. u)
-        (passed-used group before load filled-untroubled (order-sooner R m) (λ r i. i) a k c l w)
+        (passed-used group before load frames states filled-untroubled (order-sooner R m) (λ r i. i) a k c l w)
 
     -- "A frame goes to the current slot .. else the next slot is begun": else a cell of q would be in use before p
     pub filled-onward : (p q : Placed) → In p → In q → owner p ≡ owner q → SoonerAt p q

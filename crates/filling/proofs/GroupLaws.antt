@@ -53,11 +53,11 @@ module _ (group : ℕ → ℕ) where
 
     -- at each frame the first free cycle is below its repetition and all its cycles are free; at the end all slots are
     -- begun
-    pub data Untroubled : (ℕ → State) → List UnitFrame → Type 0 where
-      ended : {states : ℕ → State} → ((g : ℕ) → last g ≤ states g .begun) → Untroubled states []
-      goes : {states : ℕ → State} {f : UnitFrame} {fs : List UnitFrame}
-          → Fits (first (group (f .signal))) (load (group (f .signal))) (current states f) f
-          → Untroubled (stepped states f) fs → Untroubled states (f ∷ fs)
+    abbrev pub Untroubled : (ℕ → State) → List UnitFrame → Type 0
+    Untroubled states [] = (g : ℕ) → last g ≤ states g .begun
+    Untroubled states (f ∷ fs) =
+        Fits (first (group (f .signal))) (load (group (f .signal))) (current states f) f
+        × Untroubled (stepped states f) fs
 
     -- every group's run is as it is to be
     abbrev pub AllGood : (Q : ℕ) → (ℕ → State) → List UnitFrame → Type 0
@@ -89,10 +89,11 @@ module _ (group : ℕ → ℕ) where
         → ((f : UnitFrame) → List·Memᴰ f fs → Repetition (f .repetition) × (Q ≤ f .repetition))
         → AllGood Q states fs → Untroubled states fs
     unfolding total
-    untroubled [] states Q q none each all = ended (λ g. end-reaches (all g))
+    untroubled [] states Q q none each all = λ g. end-reaches (all g)
     untroubled (f ∷ fs) states Q q (ahead a t) each all =
         let h = each f (List·Memᴰ·head refl) in
-        let here : AllGood (f .repetition) states (f ∷ fs) = λ g. raised q (h .0) (h .1) (all g) in
-        goes (fits _ _ (loadOf fs (group (f .signal))) _ f (h .0) (own states f fs (h .0) here))
-        (untroubled fs (stepped states f) (f .repetition) (h .0) t
-        (λ x m. (each x (List·Memᴰ·tail m) .0, sooner-rises (a x m))) (all-after states f fs (h .0) here))
+        let here : AllGood (f .repetition) states (f ∷ fs) = λ g. raised q (h .0) (h .1) (all g) in (
+          fits _ _ (loadOf fs (group (f .signal))) _ f (h .0) (own states f fs (h .0) here),
+          untroubled fs (stepped states f) (f .repetition) (h .0) t
+              (λ x m. (each x (List·Memᴰ·tail m) .0, sooner-rises (a x m))) (all-after states f fs (h .0) here),
+        )

@@ -15,10 +15,9 @@ use Rattle.filling.specs.Runs.{Placed, State, placed, after}
 use Rattle.filling.specs.Filled.{fillFrom}
 use Rattle.filling.proofs.OrderLaws.{InTurn, Sooner}
 use Rattle.filling.proofs.OrderLaws.InTurn.{none, ahead}
-use Rattle.filling.proofs.RunLaws.{goes-case, goes-next}
+use Rattle.filling.proofs.RunLaws.{goes-case, goes-next, InSlots}
 use Rattle.filling.proofs.CellLaws.{Gone, Past, gone-stays, sent-gone, passed-gone, gone-unsent, gone-or-sent}
 use Rattle.filling.proofs.GroupLaws.{current, stepped, stepped-each, last, Untroubled}
-use Rattle.filling.proofs.GroupLaws.Untroubled.{ended, goes}
 
 -- the frame of a place, as it stood in the order of filling
 abbrev pub turnOf : Placed → UnitFrame
@@ -83,63 +82,54 @@ module _ (group : ℕ → ℕ) where
 
     -- ---- in the slots of its group
 
-    pub record InSlots (p : Placed) : Type 0 where
-      pub past : first (groupAt p) < p .frame .slot
-      pub frame : FrameInRange (last group first load (groupAt p)) (p .frame)
-
-    pub places-in : {states : ℕ → State} {fs : List UnitFrame} → Going states fs → {p : Placed} → Among states fs p
-        → InSlots p
+    pub places-in : (fs : List UnitFrame) (states : ℕ → State) → Going states fs → {p : Placed} → Among states fs p
+        → InSlots (first (groupAt p)) (load (groupAt p)) (p .frame)
     unfolding fillFrom
-    places-in (ended r) m = absurd (List·Memᴰ·not-nil m)
-    places-in (goes h u) (List·Memᴰ·head e) =
-        subst InSlots (sym e)
-        (record {
-          past = h .past;
-          frame = record { slot = omega (arith, h .past, h .within); repetition = h .seven; base = h .below };
-        })
-    places-in (goes h u) (List·Memᴰ·tail m) = places-in u m
+    places-in [] states u m = absurd (List·Memᴰ·not-nil m)
+    places-in (f ∷ fs) states (h, u) (List·Memᴰ·head e) = rw e (h .inside)
+    places-in (f ∷ fs) states (h, u) (List·Memᴰ·tail m) = places-in fs (stepped group states f) u m
 
     -- ---- no cell twice
 
     -- no place sends a cell that its group's run has gone over
-    unsent : {states : ℕ → State} {fs : List UnitFrame} → Going states fs → {p : Placed} → Among states fs p
+    unsent : (fs : List UnitFrame) (states : ℕ → State) → Going states fs → {p : Placed} → Among states fs p
         → (k c : ℕ) → Gone (states (groupAt p)) k c → Sends (p .frame) k c → ⊥
     unfolding fillFrom
-    unsent (ended r) m k c = absurd (List·Memᴰ·not-nil m)
-    unsent (goes {states} {f} h u) (List·Memᴰ·head e) k c = rw e (gone-unsent k c (current group states f) f h)
-    unsent (goes {states} {f} h u) {p} (List·Memᴰ·tail m) k c = λ g.
-        unsent u m k c
+    unsent [] states u m k c = absurd (List·Memᴰ·not-nil m)
+    unsent (f ∷ fs) states (h, u) (List·Memᴰ·head e) k c = rw e (gone-unsent k c (current group states f) f h)
+    unsent (f ∷ fs) states (h, u) {p} (List·Memᴰ·tail m) k c = λ g.
+        unsent fs (stepped group states f) u m k c
         (stepped-each group (λ x s. Gone (states x) k c → Gone s k c) states f
         (gone-stays k c (current group states f) f) (λ x n y. y) (groupAt p) g)
 
-    pub places-apart : {states : ℕ → State} {fs : List UnitFrame} → Going states fs
+    pub places-apart : (fs : List UnitFrame) (states : ℕ → State) → Going states fs
         → InTurn Apart (fillFrom group states fs)
     unfolding fillFrom
-    places-apart (ended r) = none
-    places-apart (goes {states} {f} h u) =
+    places-apart [] states u = none
+    places-apart (f ∷ fs) states (h, u) =
         ahead
         (λ q m e k c sent.
-        unsent u m k c
+        unsent fs (stepped group states f) u m k c
         (stepped-each group (λ x s. group (f .signal) ≡ x → Gone s k c) states f
         (λ d. sent-gone k c (current group states f) f sent) (λ x n d. absurd (n (sym d))) (groupAt q) e))
-        (places-apart u)
+        (places-apart fs (stepped group states f) u)
 
     -- ---- no cell and no slot left out
 
     -- every cell before a place was gone over at first, or is in use by a place before it
-    pub passed-used : {states : ℕ → State} {fs : List UnitFrame} {all : List Placed} → Going states fs
+    pub passed-used : (fs : List UnitFrame) (states : ℕ → State) {all : List Placed} → Going states fs
         → InTurn Sooner fs → ((q : Placed) → Among states fs q → List·Memᴰ q all)
         → {p : Placed} → Among states fs p → (k c : ℕ) → c < 64 → Past p k c
         → Gone (states (groupAt p)) k c ⊎ UsedBefore all p k c
     unfolding fillFrom
-    passed-used (ended r) t in-all m k c l b = absurd (List·Memᴰ·not-nil m)
-    passed-used (goes {states} {f} h u) t in-all (List·Memᴰ·head e) k c l b =
+    passed-used [] states u t in-all m k c l b = absurd (List·Memᴰ·not-nil m)
+    passed-used (f ∷ fs) states (h, u) t in-all (List·Memᴰ·head e) k c l b =
         inl (rw e (passed-gone k c (current group states f) f l (rw e at b)))
-    passed-used {all = all} (goes {states} {f} {fs} h u) (ahead a t) in-all {p} (List·Memᴰ·tail m) k c l b =
+    passed-used (f ∷ fs) states {all} (h, u) (ahead a t) in-all {p} (List·Memᴰ·tail m) k c l b =
         ⊎-elim
         (stepped-each group (λ x s. x ≡ groupAt p → Gone s k c → Gone (states x) k c ⊎ UsedBefore all p k c) states f
         here (λ x n e. inl) (groupAt p) refl)
-        inr (passed-used u t (λ q i. in-all q (List·Memᴰ·tail i)) m k c l b)
+        inr (passed-used fs (stepped group states f) u t (λ q i. in-all q (List·Memᴰ·tail i)) m k c l b)
       where
         here : group (f .signal) ≡ groupAt p → Gone (after (current group states f) f) k c
             → Gone (current group states f) k c ⊎ UsedBefore all p k c
@@ -157,14 +147,14 @@ module _ (group : ℕ → ℕ) where
             (gone-or-sent k c (current group states f) f h l g)
 
     -- the slots of a group that are not begun yet
-    pub slots-used : {states : ℕ → State} {fs : List UnitFrame} → Going states fs
+    pub slots-used : (fs : List UnitFrame) (states : ℕ → State) → Going states fs
         → (g k : ℕ) → states g .begun < k → k ≤ last group first load g
         → (p : Placed) × Among states fs p × (p .frame .slot ≡ k)
     unfolding fillFrom
-    slots-used (ended r) g k l h = absurd (omega (arith, r g))
-    slots-used (goes {states} {f} fits u) g k l h =
+    slots-used [] states u g k l h = absurd (omega (arith, u g))
+    slots-used (f ∷ fs) states (fits, u) g k l h =
         dite (ℕ-discrete (placeOf states f .frame .slot) k) (λ e. (placeOf states f, List·Memᴰ·head refl, e)) (λ n.
         let onward = stepped-each group (λ x s. states x .begun < k → s .begun < k) states f
         (λ b. omega (arith, goes-next (goes-case (current group states f)), n, b)) (λ x d b. b) g l in
-        let r = slots-used u g k onward h in
+        let r = slots-used fs (stepped group states f) u g k onward h in
         (r .0, List·Memᴰ·tail (r .1), r .2))

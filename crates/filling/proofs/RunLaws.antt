@@ -13,12 +13,13 @@ use lib.Dec.{ltb}
 use Rattle.laws.specs.Sums.{sum, same}
 use Rattle.laws.proofs.SumLaws.{same-cases, sum-ext, sum-le, sum-const, sum-add}
 use Rattle.laws.proofs.RemainderLaws.{same-remainder}
-use Rattle.terms.specs.Ranges.{Repetition}
+use Rattle.terms.specs.declared.Frame.{Frame}
+use Rattle.terms.specs.Ranges.{Repetition, FrameInRange}
 use Rattle.terms.proofs.RepetitionLaws.{repetition-positive, repetition-multiple}
 use Rattle.cycles.specs.Loads.{slotsFor}
 use Rattle.filling.specs.declared.UnitFrame.{UnitFrame}
 use Rattle.filling.specs.Cycles.{takes, seek, firstFree}
-use Rattle.filling.specs.Runs.{State, start, next, goesTo, after}
+use Rattle.filling.specs.Runs.{State, start, next, goesTo, placed, after}
 use Rattle.filling.proofs.CycleLaws.{takes-sum, share-positive, first-free}
 
 -- behind k slots of others, where `left` of a load is to come and the last repetition was Q: no cycle is taken twice,
@@ -94,13 +95,15 @@ goes-good {s = s} g (turn h) =
 
 -- ---- one frame
 
--- the next frame is not in trouble: where it goes, behind k slots of others and within those of a load
+-- a frame behind k slots of others and within those of a load
+pub record InSlots (k load : ℕ) (f : Frame) : Type 0 where
+  pub past : k < f .slot
+  pub frame : FrameInRange (k + slotsFor load) f
+
+-- the next frame is not in trouble: it goes into such slots, and all its cycles are free there
 pub record Fits (k load : ℕ) (s : State) (f : UnitFrame) : Type 0 where
-  pub seven : Repetition (f .repetition)
-  pub below : firstFree (goesTo s .cycles) < f .repetition
+  pub inside : InSlots k load (placed s f .frame)
   pub free : (c : ℕ) → c % f .repetition ≡ firstFree (goesTo s .cycles) → goesTo s .cycles c ≡ 0
-  pub past : k < goesTo s .begun
-  pub within : goesTo s .begun ≤ k + slotsFor load
 
 module _ (k load left : ℕ) (s : State) (f : UnitFrame) (seven : Repetition (f .repetition))
     (good : Good (f .repetition) k load (64 / f .repetition + left) s)
@@ -142,10 +145,10 @@ module _ (k load left : ℕ) (s : State) (f : UnitFrame) (seven : Repetition (f 
 
     pub fits : Fits k load s f
     fits =
+        let share = share-positive R seven in
+        let past : k < goesTo s .begun = omega (arith, after-good .full, cycles-most after-good, here .part) in
+        let slot : (1 ≤ goesTo s .begun) × (goesTo s .begun ≤ k + slotsFor load) = omega (arith, after-good .full, added) in
         record {
-          seven = seven;
-          below = below-repetition;
+          inside = record { past = past; frame = record { slot = slot; repetition = seven; base = below-repetition } };
           free = all-free;
-          past = omega (arith, after-good .full, cycles-most after-good, here .part, share-positive R seven);
-          within = omega (arith, after-good .full, added, share-positive R seven);
         }

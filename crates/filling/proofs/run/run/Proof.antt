@@ -99,14 +99,15 @@ returns c =
 show-requires : tie.Need-show-requires Inv-loop μ-loop
 show-requires c κs =
     let t = c .before .before .before .before in
-    here (t .before .before .before) .paintable _ _ (placed t)
+    let k = t .before .before .before in
+    here k .goes-on _ _ (placed t) (k .group-of .ensures) .0
 
 loop-again : tie.Need-loop-again Inv-loop μ-loop
 loop-again c =
     let w = c .before .before .before .before in
     let t = w .before .before .before .before .before in
     let k = t .before .before .before in (
-      here k .goes-on _ _ (placed t) (k .group-of .ensures) (w .show .last .1 .1 .1 .1 .0)
+      here k .goes-on _ _ (placed t) (k .group-of .ensures) .1 (w .show .last .1 .1 .1 .1 .0)
           (w .show .last .1 .1 .1 .1 .1 .0) (w .show .ensures),
       Loop k .loop .inv .1,
     )

@@ -171,7 +171,8 @@ module _ (s : Settings) (list words cells₀ results₀ : List ℕ) where
             → Filling cells′ results′ (set begun u (c .begun)) (set free u (c .slot .free)) (i + 1))
         filling-next x c (goes n t) e =
             let r = in-segment p here in
-            let room : 64 * x .slot ≤ length cells = omega (arith, r .slot, runs .fillable .cells, g .table .same-length) in
+            let room : 64 * x .slot ≤ length cells =
+            omega (arith, r .slot, runs .fillable .cells, g .table .same-length) in
             let apart = filled-apart list R (runs .fillable .grouped .seven) in (
               record { frame = within r (le-refl _); room = room },
               λ cells′ results′ q.

@@ -21,7 +21,7 @@ use Rattle.filling.specs.declared.UnitFrame.{UnitFrame}
 use Rattle.filling.specs.Ordered.{ordered}
 use Rattle.filling.specs.Runs.{Placed, State, start}
 use Rattle.filling.specs.Filled.{groupLoad, slotsBefore, needed, framesFrom, filled}
-use Rattle.filling.proofs.OrderLaws.{InTurn, two-in-turn, sooner-apart, ordered-total, ordered-from, ordered-in}
+use Rattle.filling.proofs.OrderLaws.{two-in-turn, sooner-apart, ordered-total, ordered-from, ordered-in}
 use Rattle.filling.proofs.OrderLaws.{frames-own, frames-in, frames-total, order-sooner, order-seven}
 use Rattle.filling.proofs.RunLaws.{start-good, InSlots}
 use Rattle.filling.proofs.CellLaws.{Past}

@@ -147,7 +147,8 @@ module _ (k load left : ℕ) (s : State) (f : UnitFrame) (seven : Repetition (f 
     fits =
         let share = share-positive R seven in
         let past : k < goesTo s .begun = omega (arith, after-good .full, cycles-most after-good, here .part) in
-        let slot : (1 ≤ goesTo s .begun) × (goesTo s .begun ≤ k + slotsFor load) = omega (arith, after-good .full, added) in
+        let slot : (1 ≤ goesTo s .begun) × (goesTo s .begun ≤ k + slotsFor load) =
+        omega (arith, after-good .full, added) in
         record {
           inside = record { past = past; frame = record { slot = slot; repetition = seven; base = below-repetition } };
           free = all-free;

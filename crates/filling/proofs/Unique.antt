@@ -88,12 +88,6 @@ module _ (s : Settings) (list : List ℕ) where
       subst (λ (i : ℕ). v i ≡ w i) place
       (same-words (λ d. v (at + d)) (λ d. w (at + d)) (result-one (r .0) (x (r .0) (r .1)) (y (r .0) (r .1))) (j % resultSize) (omega arith))
 
-  pub results-one : (R : ℕ → ℕ) {entry a b : List ℕ}
-      → ResultsShow s list (filled list R) entry a → ResultsShow s list (filled list R) entry b → a ≡ b
-  results-one R {entry} {a} {b} x y =
-      same-list (resultSize * count list) entry (x .same-length) (y .same-length) (x .later) (y .later)
-      (words-one R (λ d. getD a d 0) (λ d. getD b d 0) (x .shown) (y .shown))
-
   -- the cells and the results of two fillings with the same repetitions
   pub plan-same : (R Q : ℕ → ℕ) → EachTo (count list) (λ i. R i ≡ Q i) → {entry a b : PlanRoom}
       → CellsShow (s .slots) (filled list R) (entry .cells) (a .cells)
@@ -103,8 +97,11 @@ module _ (s : Settings) (list : List ℕ) where
       → a ≡ b
   plan-same R Q h {entry} {a} {b} cells results cells′ results′ =
       let e = sym (filled-same list R Q h) in
-      let c = cells-one cells (subst (λ ps. CellsShow (s .slots) ps (entry .cells) (b .cells)) e cells′) in
-      let r = results-one R results (subst (λ ps. ResultsShow s list ps (entry .results) (b .results)) e results′) in
+      let c = cells-one cells (rw e at cells′) in
+      let shown = rw e at results′ in
+      let words = words-one R (λ d. getD (a .results) d 0) (λ d. getD (b .results) d 0) (results .shown) in
+      let r = same-list _ (entry .results) (results .same-length) (shown .same-length) (results .later) (shown .later)
+      (words (shown .shown)) in
       λ t. planRoom (c t) (r t)
 
 -- ---- one outcome
@@ -120,7 +117,7 @@ fill-unique x words lent (short h l) (done i k c r) = absurd (omega arith)
 fill-unique x words lent (done h l c r) (unfit n) = absurd (n h)
 fill-unique x words lent (done h l c r) (short i k) = absurd (omega arith)
 fill-unique x words lent (done h l c r) (done i k d q) =
-    (refl, λ t. planRoom (cells-one c d t) (results-one (x .settings) (x .list) (repetitionIn words) r q t))
+    (refl, plan-same (x .settings) (x .list) (repetitionIn words) (repetitionIn words) (λ i b. refl) c r d q)
 
 pub order-unique : (frames a b : List UnitFrame) → a ≡ ordered frames → b ≡ ordered frames → a ≡ b
 order-unique frames a b p q = p ∙ sym q

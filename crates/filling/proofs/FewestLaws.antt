@@ -23,34 +23,31 @@ module _ (n m : ℕ) (group : ℕ → ℕ) (frame : ℕ → Frame) (drawn : Draw
   R i = frame i .repetition
 
   -- 1 where signal 1 + i is of group g and in slot 1 + k, else 0; and where some signal is
-  inSlot : (g k i : ℕ) → ℕ
+  abbrev inSlot : (g k i : ℕ) → ℕ
   inSlot g k i = same (group (1 + i)) g * same (frame (1 + i) .slot) (1 + k)
 
-  owned : (g k : ℕ) → ℕ
+  abbrev owned : (g k : ℕ) → ℕ
   owned g k = min 1 (sum (inSlot g k) m)
 
   -- how often signal 1 + i takes cycle c
-  takesAt : (c i : ℕ) → ℕ
+  abbrev takesAt : (c i : ℕ) → ℕ
   takesAt c i = takes (R (1 + i)) (frame (1 + i) .base) c
 
-  share : ℕ → ℕ
+  abbrev share : ℕ → ℕ
   share i = 64 / R (1 + i)
 
   in-slot : (g k i : ℕ) → 1 ≤ inSlot g k i → (group (1 + i) ≡ g) × (frame (1 + i) .slot ≡ 1 + k)
-  unfolding inSlot
   in-slot g k i h =
       let f = factors-positive (same (group (1 + i)) g) (same (frame (1 + i) .slot) (1 + k)) h in
       (same-one (group (1 + i)) g (f .0), same-one (frame (1 + i) .slot) (1 + k) (f .1))
 
   in-slot-most : (g k i : ℕ) → inSlot g k i ≤ 1
-  unfolding inSlot
   in-slot-most g k i = mul-le-mul (same-most (group (1 + i)) g) (same-most (frame (1 + i) .slot) (1 + k))
 
   -- ---- the cells of one slot
 
   -- none is taken twice
   once : (g k c : ℕ) → c < 64 → sum (λ i. inSlot g k i * takesAt c i) m ≤ owned g k
-  unfolding owned takesAt
   once g k c l = sum-one (λ i. inSlot g k i * takesAt c i) m (owned g k) small apart
     where
       small : (i : ℕ) → i < m → inSlot g k i * takesAt c i ≤ owned g k
@@ -71,7 +68,6 @@ module _ (n m : ℕ) (group : ℕ → ℕ) (frame : ℕ → Frame) (drawn : Draw
           omega (arith, one)
 
   slot-load : (g k : ℕ) → sum (λ i. inSlot g k i * share i) m ≤ 64 * owned g k
-  unfolding takesAt share
   slot-load g k =
       let by-cycles = sum-ext (λ i. inSlot g k i * share i) (λ i. sum (cells i) 64) m each in
       let none-twice = sum-le (λ c. sum (λ i. cells i c) m) (λ c. owned g k) 64 (once g k) in
@@ -89,7 +85,6 @@ module _ (n m : ℕ) (group : ℕ → ℕ) (frame : ℕ → Frame) (drawn : Draw
   -- ---- the slots of a group
 
   by-slots : (g : ℕ) → groupLoad group R m g ≡ sum (λ k. sum (λ i. inSlot g k i * share i) m) n
-  unfolding inSlot share
   by-slots g =
       sum-ext (λ i. same (group (1 + i)) g * share i) (λ i. sum (λ k. inSlot g k i * share i) n) m each
       ∙ sum-exchange (λ i k. inSlot g k i * share i) n m
@@ -111,7 +106,6 @@ module _ (n m : ℕ) (group : ℕ → ℕ) (frame : ℕ → Frame) (drawn : Draw
   -- ---- the slots of all groups: a slot has one
 
   one-owner : (g k : ℕ) → sum (λ h. owned h k) g ≤ slotUsed m frame (1 + k)
-  unfolding owned inSlot
   one-owner g k = sum-one (λ h. owned h k) g (slotUsed m frame (1 + k)) (λ h l. small h) (λ h j a b. same-owner h j)
     where
       small : (h : ℕ) → owned h k ≤ slotUsed m frame (1 + k)

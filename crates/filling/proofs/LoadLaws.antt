@@ -33,24 +33,21 @@ needed-same group R Q m h g =
 
 module _ (group R : ℕ → ℕ) (m : ℕ) where
   -- 1 where signal 1 + i is of group g, else 0; and how many are
-  ofGroup : (g i : ℕ) → ℕ
+  abbrev ofGroup : (g i : ℕ) → ℕ
   ofGroup g i = same (group (1 + i)) g
 
   load-members : (g : ℕ) → groupLoad group R m g ≤ 64 * sum (ofGroup g) m
-  unfolding ofGroup
   load-members g =
       let each = sum-le (λ i. loadAt group R g (1 + i)) (λ i. 64 * ofGroup g i) m
       (λ i l. omega (arith, mul-le-mul-left (ofGroup g i) (div-le-self 64 (R (1 + i))))) in
       omega (arith, each, sum-times 64 (ofGroup g) m)
 
   pub load-most : (g : ℕ) → groupLoad group R m g ≤ 64 * m
-  unfolding ofGroup
   load-most g =
       let members = sum-le (ofGroup g) (λ i. 1) m (λ i l. same-most (group (1 + i)) g) in
       omega (arith, load-members g, members, sum-const 1 m)
 
   pub needed-most : (g : ℕ) → slotsBefore group R m g ≤ m
-  unfolding ofGroup
   needed-most g =
       let need : ℕ → ℕ = λ k. slotsFor (groupLoad group R m k) in
       let each = sum-le need (λ k. sum (ofGroup k) m) g (λ k l. omega (arith, load-members k)) in

@@ -39,14 +39,12 @@ pub record First (cycles : Cycles) (c d r : ℕ) : Type 0 where
 
 seek-first : (cycles : Cycles) (n c : ℕ) → First cycles c (c + n) (seek cycles n c)
 unfolding seek
-seek-first cycles zero c =
-    record { within = omega arith; before = λ i l h e. omega arith; found = λ h. let z : ⊥ = omega arith in absurd z }
+seek-first cycles zero c = omega arith
 seek-first cycles (suc n) c = go (eqb (cycles c) 0) refl (seek-first cycles n (suc c))
   where
     go : (t : Bool) → eqb (cycles c) 0 ≡ t → First cycles (suc c) (suc c + n) (seek cycles n (suc c))
         → First cycles c (c + suc n) (cond t c (seek cycles n (suc c)))
-    go true e later =
-        record { within = omega arith; before = λ i l h z. omega arith; found = λ h. eqb-true (cycles c) 0 e }
+    go true e later = omega (arith, eqb-true (cycles c) 0 e)
     go false e later =
         record {
           within = omega (arith, later .within);

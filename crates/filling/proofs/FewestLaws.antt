@@ -41,9 +41,6 @@ module _ (n m : ℕ) (group : ℕ → ℕ) (frame : ℕ → Frame) (drawn : Draw
       let f = factors-positive (same (group (1 + i)) g) (same (frame (1 + i) .slot) (1 + k)) h in
       (same-one (group (1 + i)) g (f .0), same-one (frame (1 + i) .slot) (1 + k) (f .1))
 
-  in-slot-most : (g k i : ℕ) → inSlot g k i ≤ 1
-  in-slot-most g k i = mul-le-mul (same-most (group (1 + i)) g) (same-most (frame (1 + i) .slot) (1 + k))
-
   -- ---- the cells of one slot
 
   -- none is taken twice
@@ -53,7 +50,8 @@ module _ (n m : ℕ) (group : ℕ → ℕ) (frame : ℕ → Frame) (drawn : Draw
       small : (i : ℕ) → i < m → inSlot g k i * takesAt c i ≤ owned g k
       small i h =
           let least = mul-le-mul-left (inSlot g k i) (same-most (frame (1 + i) .base) (c % R (1 + i))) in
-          omega (arith, least, in-slot-most g k i, sum-term (inSlot g k) m i h)
+          let most = mul-le-mul (same-most (group (1 + i)) g) (same-most (frame (1 + i) .slot) (1 + k)) in
+          omega (arith, least, most, sum-term (inSlot g k) m i h)
 
       sends : (i : ℕ) → i < m → 1 ≤ inSlot g k i * takesAt c i → Sends (frame (1 + i)) (1 + k) c
       sends i h x =

@@ -1,11 +1,11 @@
 -- Filling as a fold over the frames: each group's frames are a run of their own, so that no frame is in trouble and in
 -- the end each group has begun the slots that it needs.
 -- Assumes nothing.
-use mathlib.Core.Path.{_≡_, refl, sym, ap, subst}
+use mathlib.Core.Path.{_≡_, refl, sym}
 use mathlib.Core.Bool.{Bool, true, false, cond}
 use mathlib.Core.List.{List, [], _∷_, List·Memᴰ, List·Memᴰ·head, List·Memᴰ·tail}
 use Prim.Native.Nat.{ℕ, _+_, _*_, _/_, _≤_}
-use native.Mathlib.Omega.{arith}
+use native.Mathlib.Nat.{zero-add, zero-mul, one-mul}
 use borrow.Author.Tests.{eqb-true, eqb-false}
 use lib.Dec.{eqb}
 use Rattle.laws.specs.Sums.{same}
@@ -63,27 +63,6 @@ module _ (group : ℕ → ℕ) where
     abbrev pub AllGood : (Q : ℕ) → (ℕ → State) → List UnitFrame → Type 0
     AllGood Q states fs = (g : ℕ) → Good Q (first g) (load g) (loadOf fs g) (states g)
 
-    module _ (states : ℕ → State) (f : UnitFrame) (fs : List UnitFrame) (seven : Repetition (f .repetition))
-        (all : AllGood (f .repetition) states (f ∷ fs))
-      where
-        abbrev g : ℕ
-        g = group (f .signal)
-
-        own : Good (f .repetition) (first g) (load g) (64 / f .repetition + loadOf fs g) (states g)
-        unfolding total
-        own =
-            subst (λ (n : ℕ). Good (f .repetition) (first g) (load g) n (states g))
-            (omega (arith, ap (λ (x : ℕ). x * (64 / f .repetition)) (same-equal g g refl))) (all g)
-
-        all-after : AllGood (f .repetition) (stepped states f) fs
-        unfolding total
-        all-after =
-            stepped-each (λ h s. Good (f .repetition) (first h) (load h) (loadOf fs h) s) states f
-            (after-good (first g) (load g) (loadOf fs g) (states g) f seven own)
-            (λ h n.
-            subst (λ (k : ℕ). Good (f .repetition) (first h) (load h) k (states h))
-            (omega (arith, ap (λ (x : ℕ). x * (64 / f .repetition)) (same-apart g h (λ e. n (sym e))))) (all h))
-
     -- frames of the seven repetitions, by rising repetition from Q on
     pub untroubled : (fs : List UnitFrame) (states : ℕ → State) (Q : ℕ) → Repetition Q → InTurn Sooner fs
         → ((f : UnitFrame) → List·Memᴰ f fs → Repetition (f .repetition) × (Q ≤ f .repetition))
@@ -92,8 +71,13 @@ module _ (group : ℕ → ℕ) where
     untroubled [] states Q q none each all = λ g. end-reaches (all g)
     untroubled (f ∷ fs) states Q q (ahead a t) each all =
         let h = each f (List·Memᴰ·head refl) in
-        let here : AllGood (f .repetition) states (f ∷ fs) = λ g. raised q (h .0) (h .1) (all g) in (
-          fits _ _ (loadOf fs (group (f .signal))) _ f (h .0) (own states f fs (h .0) here),
+        let g = group (f .signal) in
+        let here : AllGood (f .repetition) states (f ∷ fs) = λ g. raised q (h .0) (h .1) (all g) in
+        let own = rw (same-equal g g refl, one-mul) at (here g) in (
+          fits (first g) (load g) (loadOf fs g) (states g) f (h .0) own,
           untroubled fs (stepped states f) (f .repetition) (h .0) t
-              (λ x m. (each x (List·Memᴰ·tail m) .0, sooner-rises (a x m))) (all-after states f fs (h .0) here),
+              (λ x m. (each x (List·Memᴰ·tail m) .0, sooner-rises (a x m)))
+              (stepped-each (λ h s. Good (f .repetition) (first h) (load h) (loadOf fs h) s) states f
+              (after-good (first g) (load g) (loadOf fs g) (states g) f (h .0) own)
+              (λ k n. rw (same-apart g k (λ e. n (sym e)), zero-mul, zero-add) at (here k))),
         )

@@ -3,8 +3,7 @@
 -- Assumes nothing.
 use mathlib.Core.Path.{_≡_, refl, ap}
 use Prim.Native.Nat.{ℕ, _+_, _*_, _-_, _/_, _≤_, _<_}
-use native.Mathlib.Nat.{le-of-eq, mul-le-mul, mul-le-mul-left}
-use native.Mathlib.Nat.{div-le-self, div-mul-le-self, le-div-iff-mul-le}
+use native.Mathlib.Nat.{le-of-eq, mul-le-mul, mul-le-mul-left, div-le-self, div-mul-le-self, le-div-iff-mul-le}
 use native.Mathlib.Omega.{arith}
 use Rattle.laws.specs.Lowest.{Between, EachTo}
 use Rattle.laws.specs.Sums.{sum, same}

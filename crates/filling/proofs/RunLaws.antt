@@ -5,7 +5,7 @@ use mathlib.Core.Path.{_≡_, refl, sym, ap, ap₂, _∙_}
 use mathlib.Core.Bool.{Bool, true, false, cond}
 use mathlib.Core.Logic.{⊎-elim, dite}
 use Prim.Native.Nat.{ℕ, _+_, _*_, _/_, _%_, _≤_, _<_, zero-le}
-use native.Mathlib.Nat.{le-refl, mod-lt, mod-le, mod-mod, mod-add-div'}
+use native.Mathlib.Nat.{mod-lt, mod-le, mod-mod, mod-add-div'}
 use native.Mathlib.Decide.{decLt}
 use native.Mathlib.Omega.{arith}
 use borrow.Author.Tests.{ltb-true, ltb-false}
@@ -31,8 +31,7 @@ pub record Good (Q k load left : ℕ) (s : State) : Type 0 where
   pub full : 64 * k + load + 64 ≡ 64 * s .begun + sum (s .cycles) 64 + left
 
 pub start-good : (Q k load : ℕ) → Good Q k load load (start k)
-start-good Q k load =
-    record { once = λ c. le-refl 1; again = λ c. refl; part = le-refl load; full = omega (arith, sum-const 1 64) }
+start-good Q k load = omega (arith, sum-const 1 64)
 
 cycles-most : {Q k load left : ℕ} {s : State} → Good Q k load left s → sum (s .cycles) 64 ≤ 64
 cycles-most {s = s} g = omega (arith, sum-le (s .cycles) (λ c. 1) 64 (λ c h. g .once c), sum-const 1 64)
@@ -86,12 +85,7 @@ goes-good {s = s} g (turn h) =
     let each : (c : ℕ) → c < 64 → s .cycles c ≡ 1 = λ c l.
     let taken : s .cycles c ≡ 0 → ⊥ = first-free (s .cycles) .before c zero-le (omega arith) in
     omega (arith, g .once c) in
-    record {
-      once = λ c. zero-le;
-      again = λ c. refl;
-      part = g .part;
-      full = omega (arith, g .full, sum-ext (s .cycles) (λ c. 1) 64 each, sum-const 1 64, sum-const 0 64);
-    }
+    omega (arith, g .part, g .full, sum-ext (s .cycles) (λ c. 1) 64 each, sum-const 1 64, sum-const 0 64)
 
 -- ---- one frame
 

@@ -73,12 +73,7 @@ placed t =
 frames-in-order-requires : tie.Need-frames-in-order-requires Inv-loop μ-loop
 frames-in-order-requires c κs =
     let g = c .before .before .before .before .before .pre .fillable .grouped in
-    let m = c .count .ensures in
-    record {
-      given = omega (arith, g .given);
-      few = omega (arith, g .right .few);
-      seven = λ i b. g .seven i (omega (arith, b));
-    }
+    rw (c .count .ensures) (record { given = g .given; few = g .right .few; seven = g .seven })
 
 loop-holds : tie.Need-loop-holds Inv-loop μ-loop
 loop-holds c =

@@ -60,11 +60,7 @@ module _ {u : ℕ} {s : State} {c : Current} (r : ℕ) (h : Holding u s c) (f : 
   unfolding goesTo
   goes-begun d l fresh e =
       rw (le-ltb (firstFree (s .cycles)) 64 (omega (arith, alike)))
-      (record {
-        unit = fresh .unit ∙ h .unit;
-        begun = omega (arith, h .begun);
-        cycles = λ i j. omega (arith, fresh .free i j);
-      })
+      (record { unit = fresh .unit ∙ h .unit; begun = omega arith; cycles = λ i j. omega (arith, fresh .free i j) })
 
 -- ---- one frame, in the slot `to` that it goes to, whose first free cycle is b
 

@@ -1,6 +1,6 @@
 -- Frames that show the filling: they are drawn rightly, use the slots needed, and are those of "Filling the table".
 -- Assumes nothing.
-use mathlib.Core.Path.{_≡_, refl, sym, ap, subst, subst₂, _∙_}
+use mathlib.Core.Path.{_≡_, refl, sym, ap, _∙_}
 use mathlib.Core.List.{List, List·Memᴰ}
 use mathlib.Core.Logic.{inl, inr}
 use Prim.Native.Nat.{ℕ, _+_, _-_, _≤_, _<_, min}
@@ -109,12 +109,9 @@ module _ (list : List ℕ) (R : ℕ → ℕ) (frame : ℕ → Frame)
           → (j : ℕ) × Between 1 m j × Before group frame j (p .signal) × Sends (frame j) k c
       sent-before p a {k} {c} u =
           let q = u .place in
-          let e = sym (shows q (u .among)) in (
-            q .signal,
-            filled-own list R q (u .among) .0,
-            subst₂ (Goes (q .signal) (p .signal)) e (sym (shows p a)) (u .group-same, u .sooner),
-            subst (λ (f : Frame). Sends f k c) e (u .sends),
-          )
+          let e = shows q (u .among) in
+          let before : Before group frame (q .signal) (p .signal) = rw (e, shows p a) (u .group-same, u .sooner) in
+          (q .signal, filled-own list R q (u .among) .0, before, rw e (u .sends))
 
       pub filled-shown : FillingShown m group frame
       filled-shown =

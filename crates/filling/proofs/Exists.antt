@@ -65,10 +65,7 @@ module _ (list : List ℕ) (R : ℕ → ℕ) (seven : EachTo (count list) (λ i.
         dite (some-or-none (λ p. Sends (p .frame) k c) (filled list R) (λ p a. sends-or-not (p .frame) (range p a) k c))
         (λ (p, a, s). (
           p .signal,
-          record {
-            holds = λ q b t. ap (λ (z : Placed). z .signal) (filled-apart list R seven p q a b k c s t);
-            empty = λ n. absurd (n p a s);
-          },
+          record { holds = λ q b t. rw (filled-apart list R seven p q a b k c s t); empty = λ n. absurd (n p a s) },
         ))
         (λ none. (0, record { holds = λ p a s. absurd (none (p, a, s)); empty = λ n. refl }))
 

@@ -47,12 +47,7 @@ raised {Q} {R} {s = s} q r h g =
     let n = repetition-multiple Q R q r h in
     let shorter : (c : ℕ) → c % R % Q ≡ c % Q = λ c.
     same-remainder Q (c % R) c (c / R * n .0, 0, omega (arith, mod-add-div' c R, ap (λ (z : ℕ). c / R * z) (n .1))) in
-    record {
-      once = g .once;
-      again = λ c. g .again c ∙ ap (s .cycles) (sym (shorter c)) ∙ sym (g .again (c % R));
-      part = g .part;
-      full = g .full;
-    }
+    record { once = g .once; again = λ c. rw (g .again c, g .again (c % R), shorter c); part = g .part; full = g .full }
 
 -- ---- the slot that a frame goes to
 

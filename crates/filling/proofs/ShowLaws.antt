@@ -76,12 +76,8 @@ shown-none g = record { same-length = refl; holds = g .holds; empty = g .empty; 
 pub shown-then : {n : ℕ} {ps : List Placed} {entry cells exit : List ℕ}
     → CellsShow n [] entry cells → CellsShow n ps cells exit → CellsShow n ps entry exit
 shown-then g h =
-    record {
-      same-length = h .same-length ∙ g .same-length;
-      holds = h .holds;
-      empty = h .empty;
-      later = λ j l. h .later j l ∙ g .later j l;
-    }
+    let long = h .same-length ∙ g .same-length in
+    record { same-length = long; holds = h .holds; empty = h .empty; later = λ j l. h .later j l ∙ g .later j l }
 
 -- ---- one frame painted
 
@@ -99,13 +95,7 @@ module _ (f : Frame) (signal : ℕ) (entry : List ℕ) where
 
   pub painting-none : Painting entry (f .base)
   painting-none =
-      record {
-        same-length = refl;
-        times = 0;
-        reached = omega arith;
-        holds = λ n l. absurd (omega arith);
-        others = λ k d l h n. refl;
-      }
+      record { same-length = refl; times = 0; reached = omega arith; holds = omega arith; others = omega arith }
 
   module _ (cells : List ℕ) (c : ℕ) (p : Painting cells c) where
     module _ (can : Paintable entry f) (small : c < 64) where

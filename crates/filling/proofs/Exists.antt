@@ -109,10 +109,8 @@ module _ (s : Settings) (list : List ℕ) where
 
     word : (j : ℕ) → j < resultSize * count list → (x : ℕ) × WordAt j x
     word j l =
-        let r = filled-some list R (1 + j / resultSize) (omega arith) in (
-          wordOf (r .0) (j % resultSize),
-          λ p a e. ap (λ (q : Placed). wordOf q (j % resultSize)) (filled-only list R (r .0) p (r .1) a (r .2 ∙ sym e)),
-        )
+        let r = filled-some list R (1 + j / resultSize) (omega arith) in
+        (wordOf (r .0) (j % resultSize), λ p a e. rw (filled-only list R (r .0) p (r .1) a (r .2 ∙ sym e)))
 
     results-exist : (entry : List ℕ) → resultSize * count list ≤ length entry
         → (exit : List ℕ) × ResultsShow s list (filled list R) entry exit

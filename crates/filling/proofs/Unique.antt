@@ -1,7 +1,7 @@
 -- Two outcomes of filling that its contract allows for the same input are equal: the answer, each cell and each word of
 -- the results. What is shown depends on the repetitions of the signals alone.
 -- Assumes nothing.
-use mathlib.Core.Path.{_≡_, refl, sym, subst, _∙_}
+use mathlib.Core.Path.{_≡_, refl, sym, _∙_}
 use mathlib.Core.List.{List, _∷_, List·Memᴰ}
 use mathlib.Core.Logic.{dite}
 use Prim.Native.Nat.{ℕ, zero, suc, _+_, _*_, _/_, _%_, _≤_, _<_}
@@ -79,14 +79,14 @@ module _ (s : Settings) (list : List ℕ) where
       λ t. record { frame = frame t; age = age t }
 
   -- two rows of words that show one filling agree
-  pub words-one : (R : ℕ → ℕ) (v w : ℕ → ℕ) → EachResult s list (filled list R) v → EachResult s list (filled list R) w → (j : ℕ)
-      → j < resultSize * count list → v j ≡ w j
+  pub words-one : (R : ℕ → ℕ) (v w : ℕ → ℕ) → EachResult s list (filled list R) v → EachResult s list (filled list R) w
+      → (j : ℕ) → j < resultSize * count list → v j ≡ w j
   words-one R v w x y j l =
       let r = filled-some list R (1 + j / resultSize) (omega arith) in
       let at = resultStart (r .0 .signal) in
       let place : at + j % resultSize ≡ j = omega (arith, r .2) in
-      subst (λ (i : ℕ). v i ≡ w i) place
-      (same-words (λ d. v (at + d)) (λ d. w (at + d)) (result-one (r .0) (x (r .0) (r .1)) (y (r .0) (r .1))) (j % resultSize) (omega arith))
+      let one = result-one (r .0) (x (r .0) (r .1)) (y (r .0) (r .1)) in
+      rw place at (same-words (λ d. v (at + d)) (λ d. w (at + d)) one (j % resultSize) (omega arith))
 
   -- the cells and the results of two fillings with the same repetitions
   pub plan-same : (R Q : ℕ → ℕ) → EachTo (count list) (λ i. R i ≡ Q i) → {entry a b : PlanRoom}

@@ -77,12 +77,12 @@ module _ (group : ℕ → ℕ) where
     pub sends : Sends (place .frame) k c
 
   module _ (first load : ℕ → ℕ) where
-    abbrev Going : (ℕ → State) → List UnitFrame → Type 0
-    Going states fs = Untroubled group first load states fs
+    abbrev WithoutTrouble : (ℕ → State) → List UnitFrame → Type 0
+    WithoutTrouble states fs = Untroubled group first load states fs
 
     -- ---- in the slots of its group
 
-    pub places-in : (fs : List UnitFrame) (states : ℕ → State) → Going states fs → {p : Placed} → Among states fs p
+    pub places-in : (fs : List UnitFrame) (states : ℕ → State) → WithoutTrouble states fs → {p : Placed} → Among states fs p
         → InSlots (first (groupAt p)) (load (groupAt p)) (p .frame)
     unfolding fillFrom
     places-in [] states u m = absurd (List·Memᴰ·not-nil m)
@@ -92,7 +92,7 @@ module _ (group : ℕ → ℕ) where
     -- ---- no cell twice
 
     -- no place sends a cell that its group's run has gone over
-    unsent : (fs : List UnitFrame) (states : ℕ → State) → Going states fs → {p : Placed} → Among states fs p
+    unsent : (fs : List UnitFrame) (states : ℕ → State) → WithoutTrouble states fs → {p : Placed} → Among states fs p
         → (k c : ℕ) → Gone (states (groupAt p)) k c → Sends (p .frame) k c → ⊥
     unfolding fillFrom
     unsent [] states u m k c = absurd (List·Memᴰ·not-nil m)
@@ -102,7 +102,7 @@ module _ (group : ℕ → ℕ) where
         (stepped-each group (λ x s. Gone (states x) k c → Gone s k c) states f
         (gone-stays k c (current group states f) f) (λ x n y. y) (groupAt p) g)
 
-    pub places-apart : (fs : List UnitFrame) (states : ℕ → State) → Going states fs
+    pub places-apart : (fs : List UnitFrame) (states : ℕ → State) → WithoutTrouble states fs
         → InTurn Apart (fillFrom group states fs)
     unfolding fillFrom
     places-apart [] states u = none
@@ -117,7 +117,7 @@ module _ (group : ℕ → ℕ) where
     -- ---- no cell and no slot left out
 
     -- every cell before a place was gone over at first, or is in use by a place before it
-    pub passed-used : (fs : List UnitFrame) (states : ℕ → State) {all : List Placed} → Going states fs
+    pub passed-used : (fs : List UnitFrame) (states : ℕ → State) {all : List Placed} → WithoutTrouble states fs
         → InTurn Sooner fs → ((q : Placed) → Among states fs q → List·Memᴰ q all)
         → {p : Placed} → Among states fs p → (k c : ℕ) → c < 64 → Past p k c
         → Gone (states (groupAt p)) k c ⊎ UsedBefore all p k c
@@ -147,7 +147,7 @@ module _ (group : ℕ → ℕ) where
             (gone-or-sent k c (current group states f) f h l g)
 
     -- the slots of a group that are not begun yet
-    pub slots-used : (fs : List UnitFrame) (states : ℕ → State) → Going states fs
+    pub slots-used : (fs : List UnitFrame) (states : ℕ → State) → WithoutTrouble states fs
         → (g k : ℕ) → states g .begun < k → k ≤ last group first load g
         → (p : Placed) × Among states fs p × (p .frame .slot ≡ k)
     unfolding fillFrom

@@ -21,8 +21,8 @@ settings e =
     settings-granted (Begin e .args .s) (w .result) (w .ensures) (e .if1 .left)
 
 -- past the second the count is
-counted : (e : tie.Else2) → CountInRange (Begin (e .before .before) .args .list .now)
-counted e = granted (e .before .count-in-range .result) (e .before .count-in-range .ensures) (e .if2 .left)
+in-range : (e : tie.Else2) → CountInRange (Begin (e .before .before) .args .list .now)
+in-range e = granted (e .before .count-in-range .result) (e .before .count-in-range .ensures) (e .if2 .left)
 
 returns : tie.Need-returns
 returns c =
@@ -38,22 +38,22 @@ cast-t11 : tie.Need-cast-t11
 cast-t11 c = let few = settings (c .before .before .before .before) in omega arith
 
 returns-3 : tie.Need-returns-3
-returns-3 c = let e = c .before .before in inr (settings (e .before .before), inr (counted e, inl (omega arith)))
+returns-3 c = let e = c .before .before in inr (settings (e .before .before), inr (in-range e, inl (omega arith)))
 
 cast-t12 : tie.Need-cast-t12
-cast-t12 c = let a = c .before in omega (arith, counted (a .before .before .before) .few, a .count .ensures)
+cast-t12 c = let a = c .before in omega (arith, in-range (a .before .before .before) .few, a .count .ensures)
 
 returns-4 : tie.Need-returns-4
 returns-4 c =
     let a = c .before in
     let e = a .before .before .before in
-    inr (settings (e .before .before), inr (counted e, inr (omega arith, inl (omega (arith, a .count .ensures)))))
+    inr (settings (e .before .before), inr (in-range e, inr (omega arith, inl (omega (arith, a .count .ensures)))))
 
 returns-5 : tie.Need-returns-5
 returns-5 c =
     let a = c .before in
     let e = a .before .before .before in
-    inr (settings (e .before .before), inr (counted e, inr (omega arith, inr (omega (arith, a .count .ensures)))))
+    inr (settings (e .before .before), inr (in-range e, inr (omega arith, inr (omega (arith, a .count .ensures)))))
 
 pub judge-lent-spec : {M : Type 1} → statement M
 judge-lent-spec =

@@ -12,7 +12,7 @@ use lib.ListN.{length}
 use Rattle.laws.specs.Rows.{Hold}
 use Rattle.laws.proofs.RowLaws.{numbered-join, single-join, Numbered, Single, zero-holds, not-zero-fails}
 use Rattle.laws.proofs.LowestLaws.{lowest-one}
-use Rattle.laws.proofs.DecidedLaws.{Decided, first-row, decided-hold, lowest-or-each}
+use Rattle.laws.proofs.DecidedLaws.{Decided, first-row, decided-hold, decided-row, lowest-or-each}
 use Rattle.terms.specs.declared.Answer.{Answer}
 use Rattle.terms.specs.declared.Answer.the-variants.{Length, Check, Kind, Count, Zero}
 use Rattle.terms.specs.Lists.{signalSize}
@@ -105,15 +105,11 @@ module _ (b : List ℕ) where
 
   pub book-decided : Decided (bookRows b)
   book-decided =
-      dite length-or-not
-      (λ l. inl (
-        l,
-        tried b (CheckRight b) (λ k. ℕ-discrete _ _)
-            (tried b (KindRight b) (λ k. Dec·and (ℕ-discrete _ _) (ℕ-discrete _ _))
-            (⊎-elim inl (λ f. inr (f .0, (0, refl)))
-            (tried b (CountRight b) share-or-not (tried b (ZerosRight b) zeros-or-not tt)))),
-      ))
-      (λ n. inr (n, (0, refl)))
+      decided-row length-or-not (0, refl) (λ l.
+      tried b (CheckRight b) (λ k. ℕ-discrete _ _)
+      (tried b (KindRight b) (λ k. Dec·and (ℕ-discrete _ _) (ℕ-discrete _ _))
+      (⊎-elim inl (λ f. inr (f .0, (0, refl)))
+      (tried b (CountRight b) share-or-not (tried b (ZerosRight b) zeros-or-not tt)))))
 
   pub book-answerable : Answerable (bookRows b)
   book-answerable = (

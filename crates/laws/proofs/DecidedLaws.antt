@@ -31,9 +31,8 @@ decided-hold (r ∷ rs) (inl (h, d)) = dite (decided-hold rs d) (λ k. yes (h, k
 decided-hold (r ∷ rs) (inr f) = no (λ k. f .0 (k .0))
 
 -- one row more, whose fact is decided and whose place is then known
-pub asked : (r : Row) (rs : List Row) → Dec (r .holds) → ((p : ℕ) × r .place p) → (r .holds → Decided rs)
-    → Decided (r ∷ rs)
-asked r rs d p more = dite d (λ h. inl (h, more h)) (λ n. inr (n, p))
+pub decided-row : {Fact Place Rest : Type 0} → Dec Fact → Place → (Fact → Rest) → (Fact × Rest) ⊎ ((Fact → ⊥) × Place)
+decided-row d p more = dite d (λ h. inl (h, more h)) (λ n. inr (n, p))
 
 -- a property that is decided at each number is that of each, or there is a lowest without it
 pub lowest-or-each : (m : ℕ) (P : ℕ → Type 0) → EachTo m (λ i. Dec (P i)) → EachTo m P ⊎ ((i : ℕ) × LowestWithout m P i)
@@ -45,7 +44,7 @@ lowest-or-each m P decided = from m 1 (omega arith) (reached-first m P)
         dite (decided i (r .first, omega arith)) (λ p. from left (i + 1) (omega arith) (reached-next m P i r (omega arith) p))
         (λ f. inr (i, reached-fails m P i r (omega arith) f))
 
-pub asked-each : (n m : ℕ) (P : ℕ → Type 0) (rs : List Row) → EachTo m (λ i. Dec (P i)) → (EachTo m P → Decided rs)
+pub decided-each : (n m : ℕ) (P : ℕ → Type 0) (rs : List Row) → EachTo m (λ i. Dec (P i)) → (EachTo m P → Decided rs)
     → Decided (lowestRow n m P ∷ rs)
-asked-each n m P rs decided more =
+decided-each n m P rs decided more =
     ⊎-elim (λ e. inl (e, more e)) (λ l. inr (lowest-not-each m P (l .0) (l .1), l)) (lowest-or-each m P decided)

@@ -1,4 +1,5 @@
--- Laws of rows of refusals, once over any list of rows: which numbers come, one outcome only, and a front of rows passed.
+-- Laws of rows of refusals, once over any list of rows: which numbers and places come, one outcome only, and
+-- a front of rows passed.
 -- Assumes nothing.
 use mathlib.Core.Path.{_≡_, _∙_, sym}
 use mathlib.Core.List.{List, [], _∷_, _++_}

@@ -11,7 +11,7 @@ use lib.ListN.{length}
 use Rattle.laws.specs.Says.{Says}
 use Rattle.laws.specs.Rows.{Row}
 use Rattle.laws.specs.Lowest.{Between}
-use Rattle.laws.proofs.DecidedLaws.{Decided, first-row, asked, asked-each}
+use Rattle.laws.proofs.DecidedLaws.{Decided, first-row, decided-row, decided-each}
 use Rattle.terms.specs.declared.Settings.{Settings}
 use Rattle.terms.specs.declared.Signal.{Signal}
 use Rattle.terms.specs.Requests.{Request, PlanRoom}
@@ -73,12 +73,12 @@ module _ (s : Settings) (list : List ℕ) (settings : SettingsInRange s) where
   -- 7, 8 and 9
   pub signals-decided : Decided (signalRows s list)
   signals-decided =
-      asked-each 7 (count list) (λ i. SignalInRange s (signalAt list i)) (boundRow s list ∷ slotsRow s list ∷ [])
+      decided-each 7 (count list) (λ i. SignalInRange s (signalAt list i)) (boundRow s list ∷ slotsRow s list ∷ [])
       (λ i b. signal-or-not s (signalAt list i)) (λ signals.
-      asked-each 8 (count list) (λ i. Kept s (signalAt list i)) (slotsRow s list ∷ [])
+      decided-each 8 (count list) (λ i. Kept s (signalAt list i)) (slotsRow s list ∷ [])
       (λ i b. kept-or-not s (signalAt list i) (record { settings = settings; signal = signals i b })) (λ kept.
       let (R, r) = repetitions-exist signals in
-      asked (slotsRow s list) []
+      decided-row
       (map-dec (λ h Q q. omega (arith, h, needed-same s list Q q R r)) (λ all. all R r) (decLe _ (s .slots)))
       (needed list R, (R, r, refl)) (λ h. tt)))
 
@@ -86,11 +86,11 @@ module _ (s : Settings) (list : List ℕ) (settings : SettingsInRange s) where
 pub after-settings : (s : Settings) (rest : List Row) → (SettingsInRange s → Decided rest) → Decided (settingRow s ∷ rest)
 after-settings s rest =
     let (n, w, lowest) = first-row (settingRows s) (λ p. p ≡ 0) (settings-decided s) (λ h. (0, refl)) in
-    asked (settingRow s) rest (settings-or-not s) (w, (n, lowest))
+    decided-row (settings-or-not s) (w, (n, lowest))
 
 -- 10
 pub after-room : (needs lent : ℕ) (rest : List Row) → Decided rest → Decided (roomRow needs lent ∷ rest)
-after-room needs lent rest d = asked (roomRow needs lent) rest (decLe needs lent) (needs, refl) (λ h. d)
+after-room needs lent rest d = decided-row (decLe needs lent) (needs, refl) (λ h. d)
 
 -- 6, 4 and 10, and then those of the signals
 pub planning-decided : (x : Request) (l : PlanRoom) → Decided (planningRows x l)
@@ -100,6 +100,6 @@ planning-decided x l =
     let results = roomRow (resultSize * count list) (length (l .results)) ∷ signalRows s list in
     let cells = roomRow (64 * s .slots) (length (l .cells)) ∷ results in
     after-settings s (countRow list ∷ cells) (λ settings.
-    asked (countRow list) cells (count-or-not list) (0, refl) (λ right.
+    decided-row (count-or-not list) (0, refl) (λ right.
     after-room (64 * s .slots) (length (l .cells)) results
     (after-room (resultSize * count list) (length (l .results)) (signalRows s list) (signals-decided s list settings))))

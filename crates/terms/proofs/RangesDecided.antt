@@ -2,13 +2,13 @@
 -- Assumes nothing.
 use mathlib.Core.Path.{refl}
 use mathlib.Core.List.{List}
-use mathlib.Core.Logic.{_⊎_, inl, inr, dite, Dec·and}
+use mathlib.Core.Logic.{dite, Dec·and}
 use Prim.Native.Nat.{ℕ, _*_, _%_}
 use native.Mathlib.Decide.{ℕ-discrete, decLe, decLt, map-dec}
 use native.Mathlib.Omega.{arith}
 use lib.ListN.{length}
 use Rattle.laws.specs.Lowest.{Between}
-use Rattle.laws.proofs.DecidedLaws.{Decided, decided-hold}
+use Rattle.laws.proofs.DecidedLaws.{Decided, decided-hold, decided-row}
 use Rattle.terms.specs.declared.Settings.{Settings}
 use Rattle.terms.specs.declared.Signal.{Signal}
 use Rattle.terms.specs.declared.Frame.{Frame}
@@ -22,17 +22,13 @@ between-or-not low high x = Dec·and (decLe low x) (decLe x high)
 
 -- ---- settings and signals
 
--- one row more, decided, with its place
-asked : {A B C : Type 0} → Dec A → C → B → (A × B) ⊎ ((A → ⊥) × C)
-asked d place rest = dite d (λ h. inl (h, rest)) (λ n. inr (n, place))
-
 pub settings-decided : (s : Settings) → Decided (settingRows s)
 settings-decided s =
-    asked (between-or-not 10 16000 (s .cycle)) (2, refl) (
-    asked (between-or-not 1 16000 (s .slot)) (3, refl) (
-    asked (Dec·and (between-or-not 2 128 (s .slots)) (decLe (s .slots * s .slot) (s .cycle))) (4, refl) (
-    asked (decLe (s .packing) 16000) (5, refl) (
-    asked (between-or-not 1 127 (s .payload)) (6, refl) tt))))
+    decided-row (between-or-not 10 16000 (s .cycle)) (2, refl) (λ _.
+    decided-row (between-or-not 1 16000 (s .slot)) (3, refl) (λ _.
+    decided-row (Dec·and (between-or-not 2 128 (s .slots)) (decLe (s .slots * s .slot) (s .cycle))) (4, refl) (λ _.
+    decided-row (decLe (s .packing) 16000) (5, refl) (λ _.
+    decided-row (between-or-not 1 127 (s .payload)) (6, refl) (λ _. tt)))))
 
 pub settings-or-not : (s : Settings) → Dec (SettingsInRange s)
 settings-or-not s = decided-hold (settingRows s) (settings-decided s)

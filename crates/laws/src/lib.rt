@@ -1,8 +1,8 @@
 // The laws that every room cites; its one routine is the greatest common divisor.
-ghost use Rattle·laws·specs.specs.Divisor.{IsGcd};
+ghost use Rattle.laws.specs.Divisor.{IsGcd};
 
 pub fn gcd(a: u32, b: u32) -> u32
-    ensures { λ r. ⌜ IsGcd a b r ⌝ }
+    ensures { IsGcd a b result }
 {
     let mut x = a;
     let mut y = b;

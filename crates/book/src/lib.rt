@@ -1,5 +1,6 @@
 // The book of blocks: settings and a list of signals as bytes, read, written, and lent a signal at a time.
 // Promises: each public routine's answer and every lent word and byte at exit are fixed by what it was given.
+#![tactic(auto)]
 mod layout;
 mod reader;
 mod words;

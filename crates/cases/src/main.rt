@@ -1,5 +1,6 @@
 // Runs the cases of "Examples with numbers" through the routines and writes what they give, a line each.
 // The file `stdout` holds 01's numbers; the starred ones are also proved, of the definitions, in proofs/Starred.antt.
+#![tactic(auto)]
 use libc::STDOUT_FILENO;
 use terms::{Frame, Settings, Signal};
 

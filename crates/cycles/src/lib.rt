@@ -1,5 +1,6 @@
 // The cycles of a slot: the seven patterns, the cycles that a frame names, the tally of a unit's load, the slot being filled.
 // Promises: every word is given by its 64 bits, for all inputs; what is no repetition or no base names no cycle and adds no load.
+#![tactic(auto)]
 ghost use Rattle.std.specs.Prelude.{◌≡◌};
 ghost use Rattle.laws.specs.Says.{Says};
 ghost use Rattle.cycles.specs.Bits.{Mask};

@@ -1,4 +1,6 @@
 // The laws that every room cites; its one routine is the greatest common divisor.
+#![tactic(auto)]
+
 ghost use Rattle.laws.specs.Divisor.{IsGcd};
 
 pub fn gcd(a: u32, b: u32) -> u32

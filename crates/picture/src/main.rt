@@ -1,5 +1,6 @@
 // The picture of a plan: a book on standard input, the planned table as SVG on standard output, or the refusal.
 // Thin: reading, planning and what they promise are in the libraries; here the cells they give are drawn.
+#![tactic(auto)]
 mod legend;
 mod sheet;
 mod table;

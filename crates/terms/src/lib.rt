@@ -1,5 +1,7 @@
 // 01's settings, signals, frames and answers as values, and the routines that judge and number them.
 // Promises: each judge is exact in both directions; an answer's number and place are those of 01's table.
+#![tactic(auto)]
+
 ghost use Rattle.std.specs.Prelude.{◌≡◌, ◌+◌, ◌-◌, ◌^◌, ◌<◌, get_or, set};
 ghost use Rattle.laws.specs.Says.{Says};
 ghost use Rattle.laws.specs.Stored.{stored};
@@ -9,7 +11,7 @@ ghost use Rattle.terms.specs.Results.{result_size, result_start, words_of};
 ghost use Rattle.terms.specs.Answers.{number_of, place_of, packed_of};
 
 // The settings words 2 to 6 in order: cycle length, slot length, number of slots, packing time, payload.
-#[derive(Drop)]
+#[derive(Clone, Copy)]
 pub struct Settings {
     pub cycle: u32,
     pub slot: u32,
@@ -19,7 +21,7 @@ pub struct Settings {
 }
 
 // A signal's five words; `bound` is its freshness bound.
-#[derive(Drop)]
+#[derive(Clone, Copy)]
 pub struct Signal {
     pub unit: u32,
     pub period: u32,
@@ -29,7 +31,7 @@ pub struct Signal {
 }
 
 // Where and when a signal is sent.
-#[derive(Drop)]
+#[derive(Clone, Copy)]
 pub struct Frame {
     pub slot: u32,
     pub repetition: u32,
@@ -42,7 +44,7 @@ pub const SIGNAL_WORDS: usize = 5;
 pub const MOST_SIGNALS: usize = 600;
 
 // A signal's frame, and its age there.
-#[derive(Drop)]
+#[derive(Clone, Copy)]
 pub struct Result {
     pub frame: Frame,
     pub age: u32,
@@ -52,7 +54,7 @@ pub struct Result {
 pub const RESULT_WORDS: usize = 4;
 
 // 01's numbers 0 to 11, in order; what a case holds is its place.
-#[derive(Drop)]
+#[derive(Clone, Copy)]
 pub enum Answer {
     Done(u32),
     Length,

@@ -1,6 +1,7 @@
 // The age of one signal in one frame.
 // Promises: the definition's age, over all releases for ever; 0 exactly where something is out of range.
 #![tactic(auto)]
+
 ghost use Rattle.laws.specs.Says.{Says};
 ghost use Rattle.age.specs.Age.{IsAge, Age};
 ghost use Rattle.age.specs.AgeGiven.{InRange, AgeGiven, LongestGiven};

@@ -1,6 +1,7 @@
 // The repetition of one signal, by trying every slot and base of each of the seven, the largest first.
 // Promises: the largest that keeps the bound; 0 exactly out of range and where none keeps it.
 #![tactic(auto)]
+
 ghost use Rattle.std.specs.Prelude.{◌+◌, ◌*◌, ◌≤◌, ◌<◌};
 ghost use Rattle.laws.specs.Says.{Says};
 ghost use Rattle.terms.specs.Ranges.{Valid, Repetition};

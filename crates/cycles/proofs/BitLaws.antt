@@ -29,9 +29,9 @@ bit_none c = ap (λ (x : ℕ). x % 2) (zero-div (2 ^ c))
 
 -- ---- `&`
 
-pub bit_and : (a b c : ℕ) → bit (bit_and a b) c ≡ min (bit a c) (bit b c)
+pub bit_of_and : (a b c : ℕ) → bit (bit_and a b) c ≡ min (bit a c) (bit b c)
 unfolding bit
-bit_and a b c =
+bit_of_and a b c =
     let x = a / 2 ^ c in
     let y = b / 2 ^ c in
     ap (λ (z : ℕ). z % 2) (and_shr a b c ∙ and_step x y)

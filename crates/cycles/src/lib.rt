@@ -1,6 +1,7 @@
 // The cycles of a slot: the seven patterns, the cycles that a frame names, the tally of a unit's load, the slot being filled.
 // Promises: every word is given by its 64 bits, for all inputs; what is no repetition or no base names no cycle and adds no load.
 #![tactic(auto)]
+
 ghost use Rattle.std.specs.Prelude.{◌≡◌};
 ghost use Rattle.laws.specs.Says.{Says};
 ghost use Rattle.cycles.specs.Bits.{Mask};
@@ -20,13 +21,13 @@ const PATTERNS: [u64; 7] = [
 ];
 
 // A unit's load in slot-cycles: a frame of repetition R adds 64/R.
-#[derive(Drop)]
+#[derive(Clone, Copy)]
 pub struct Tally {
     pub load: u32,
 }
 
 // The slot being filled: its unit, and its free cycles as set bits.
-#[derive(Drop)]
+#[derive(Clone, Copy)]
 pub struct Slot {
     pub unit: u32,
     pub free: u64,

@@ -1,15 +1,11 @@
 -- `cycles::Slot::first_free` meets its contract: the trailing zeros are the cycles that are taken before the first free one.
 -- Assumes nothing.
-use native.Mathlib.Omega.{arith}
+use Rattle.std.proofs.Common.{arith}
 use lib.Count.{trailing_le}
 use Rattle.cycles.proofs.BitLaws.{bit_before, bit_at}
-use Rattle.cycles.proofs.Slot.first_free.Statement.{statement}
-use Rattle.cycles.proofs.Slot.first_free.Tie as tie
+use Rattle.cycles.proofs.Slot.first_free.Goals as goal
 
-returns : tie.Need-returns
+pub returns : goal.returns
 returns c =
-    let free = c.before.args.self.free in
+    let free = c.args.self.free in
     record { within = trailing_le 64 _; before = λ k l e. omega (arith, bit_before 64 free k l); found = bit_at 64 _ }
-
-pub first-free-spec : {M : Type 1} → statement M
-first-free-spec = tie.close (tie.spec returns)

@@ -1,6 +1,7 @@
 // The calls of the configuration editor, a C program: numbers as they stand in the book, and their answers.
 // Promises: what the rooms below promise, of the words as they are handed over.
 #![tactic(auto)]
+
 ghost use Rattle.std.specs.Prelude.{◌≡◌};
 ghost use Rattle.laws.specs.Given.{Given};
 ghost use Rattle.terms.specs.Lists.{CountInRange};

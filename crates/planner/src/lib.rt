@@ -1,6 +1,7 @@
 // Planning: the answer, the cells of the table and each signal's result, over lent words.
 // Promises: 01's answer in 01's order; an accepted plan is filled as 01 says; a refusal changes nothing that was lent.
 #![tactic(auto)]
+
 ghost use Rattle.terms.specs.Requests.{request, plan_room};
 ghost use Rattle.std.specs.Prelude.{◌≡◌};
 ghost use Rattle.planner.specs.Planned.{Planned};

@@ -83,7 +83,7 @@ books_2 =
       zeros_read = λ s book l y (r, read, e, t) n. e ∙ (read.refused (λ z. n (t.0 ∙ z))).0;
       list_read = λ s book l y (r, read, e, t) z. (read.done (sym t.0 ∙ z)).1;
       written = λ x l y (a, w, t) z. w.done (sym t.0 ∙ z);
-      same-values = λ x room w (a, out, t) z settings words s book l y (r, read, e, u) same enough.
+      same_values = λ x room w (a, out, t) z settings words s book l y (r, read, e, u) same enough.
           let blocks : book ≡ take (512 * place_of a) w.lent = same ∙ ap (λ (n : ℕ). take (512 * n) w.lent) t.1 in
           let given =
           write_then_read settings words out (sym t.0 ∙ z) enough (subst (λ (b : List ℕ). ReadOutcome b l r y.lent) blocks read) in
@@ -142,9 +142,9 @@ books_c_2 =
       zeros_read = c_zeros;
       list_read = λ s book l y p z. books_2.list_read s book l y (c_reads_done s book l y p z) z;
       written = λ x l y p. books_2.written x l y (c_writes x l y p);
-      same-values = λ x room w p z settings words s book l y q same enough.
+      same_values = λ x room w p z settings words s book l y q same enough.
           let r = c_reads book l s y q in
-          let values = books_2.same-values x room w (c_writes x room w p) z settings words in
+          let values = books_2.same_values x room w (c_writes x room w p) z settings words in
           let given = values r.0 book l y r.1 same enough in
           values s book l y (c_reads_done s book l y q given.accepted) same enough;
       same_bytes = λ s book l y p z bytes x room w q.

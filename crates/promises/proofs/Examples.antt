@@ -4,7 +4,8 @@
 use mathlib.Core.Path.{◌≡◌, refl, ap}
 use mathlib.Core.List.{List, [], ◌∷◌, ◌++◌}
 use mathlib.Core.Logic.{inl, inr}
-use Prim.Native.Nat.{ℕ, zero, suc, ◌^◌, ◌<◌}
+use Prim.Native.Nat.{ℕ, zero, suc, ◌^◌, ◌<◌, ◌≤◌}
+use lib.ListN.{get_or}
 use native.Mathlib.Omega.{arith}
 use lib.Dec.{lit≤}
 use Rattle.laws.specs.Lowest.{EachTo, LowestWithout}
@@ -25,7 +26,7 @@ use Rattle.book.specs.Blocks.{AreWords}
 use Rattle.promises.specs.Demand2.{Releases, StartsAt, Behind}
 use Rattle.promises.specs.Changes.{RaisedSignal, Eased}
 use Rattle.promises.proofs.Inputs.{settings, fresh, stale, list_of, case1, case3, twice}
-use Rattle.promises.proofs.Named.{fresh_valid, fresh_keeps, stale_gets, one, at_one, slot1, case1_count, settings_words_lem, below_test}
+use Rattle.promises.proofs.Named.{fresh_valid, fresh_keeps, stale_gets, one, at_one, slot1, case1_count, are_words, below_test}
 use Rattle.promises.proofs.Clock.{releases, starts_named}
 use Rattle.promises.proofs.OnePlan.{one_age}
 
@@ -172,7 +173,7 @@ pub below_no : AllBelow 256 (256 ∷ []) → ⊥
 below_no h = omega (arith, h 0)
 
 pub words_yes : AreWords settings
-words_yes = settings_words_lem
+words_yes = are_words
 
 pub words_no : AreWords (record { cycle = 2 ^ 32; slot = 16; slots = 93; packing = 0; payload = 8 }) → ⊥
 words_no h = omega (arith, h.cycle)
@@ -188,7 +189,13 @@ starts_no at =
     omega (arith, ((starts_named settings slot7 in_range 162597).1 at).1)
 
 pub behind_yes : Behind 1 (5 ∷ 6 ∷ []) (7 ∷ 6 ∷ [])
-behind_yes = (refl, λ j. elim j [ zero ↦ λ h. absurd (omega (arith, h)) | suc j ↦ λ h. refl ])
+behind_yes = (
+  refl,
+  λ j. elim j as (λ k. 1 ≤ k → get_or {A = ℕ} (7 ∷ 6 ∷ []) k 0 ≡ get_or {A = ℕ} (5 ∷ 6 ∷ []) k 0) [
+    zero ↦ λ h. absurd (omega (arith, h)) |
+    suc j ↦ λ h. refl
+  ],
+)
 
 pub behind_no : Behind 1 (5 ∷ 6 ∷ []) (5 ∷ 7 ∷ []) → ⊥
 behind_no h = omega (arith, h.1 1 (lit≤ tt))

@@ -64,7 +64,7 @@ filling_yes =
       lowest = λ i k a b. (1, (lit≤ tt, lit≤ tt), omega (arith, b, slot i a));
       onward = λ i j a b h. omega (arith, slot i a, slot j b);
       full = λ i j c a b h l. absurd (omega (arith, l, slot i a, slot j b));
-      first_free_lem = λ i c a. at_three (λ i. c < (case10 i).base → Taken i c) (first c) (λ l. absurd (omega (arith, l))) (third c) i a;
+      first_free = λ i c a. at_three (λ i. c < (case10 i).base → Taken i c) (first c) (λ l. absurd (omega (arith, l))) (third c) i a;
     }
   where
     unit : EachTo 3 (λ i. group_of thrice i ≡ 1)
@@ -118,6 +118,6 @@ late = shows (results_of (result 1 1 2 0 ∷ []))
 
 pub first_free_no : FillingShown 1 (group_of case1) late → ⊥
 first_free_no h =
-    let (j, b, before, sends) = h.first-free 1 0 (lit≤ tt, lit≤ tt) (lit≤ tt) in
+    let (j, b, before, sends) = h.first_free 1 0 (lit≤ tt, lit≤ tt) (lit≤ tt) in
     ⊎_elim (λ l. omega (arith, l, at_one (λ i. (late i).repetition ≡ 2) refl j b)) (λ e. omega (arith, e.1, b))
     before.1

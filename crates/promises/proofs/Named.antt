@@ -5,7 +5,7 @@ use mathlib.Core.List.{List, [], ◌∷◌}
 use Prim.Native.Nat.{ℕ, zero, suc, ◌*◌, ◌^◌, ◌≤◌, ◌<◌}
 use native.Mathlib.Omega.{arith}
 use lib.Dec.{lit≤}
-use lib.ListN.{length}
+use lib.ListN.{length, get_or}
 use Rattle.laws.specs.Rows.{Hold}
 use Rattle.laws.specs.Lowest.{EachTo}
 use Rattle.laws.proofs.FactTests.{Test, passing, less, join, shown}
@@ -107,26 +107,26 @@ module _ (l : PlanRoom) (cells : 5952 ≤ length l.cells) where
 -- a list whose numbers are all below n, tested one by one
 abbrev pub below_test : (n : ℕ) (l : List ℕ) → 0 < n → Test (AllBelow n l)
 below_test n [] p = passing (λ i. p)
-below_test n (x ∷ l) p = shown (λ h i. elim i [ zero ↦ h.0 | suc i ↦ h.1 i ]) (join (less x n) (below_test n l p))
+below_test n (x ∷ l) p = shown (λ h i. elim i as (λ k. get_or (x ∷ l) k 0 < n) [ zero ↦ h.0 | suc i ↦ h.1 i ]) (join (less x n) (below_test n l p))
 
-pub settings_words_lem : AreWords settings
-settings_words_lem = record { cycle = lit≤ tt; slot = lit≤ tt; slots = lit≤ tt; packing = lit≤ tt; payload = lit≤ tt }
+pub are_words : AreWords settings
+are_words = record { cycle = lit≤ tt; slot = lit≤ tt; slots = lit≤ tt; packing = lit≤ tt; payload = lit≤ tt }
 
 -- a book of these settings is sound, and its words are its values
 pub record BookHolds (list : List ℕ) : Type 0 where
   pub sound : Hold (book_rows (book_of settings list))
-  pub settings_in_lem : settings_in (book_of settings list) ≡ settings
-  pub list_in_lem : list_in (book_of settings list) ≡ list
+  pub settings_back : settings_in (book_of settings list) ≡ settings
+  pub list_back : list_in (book_of settings list) ≡ list
   pub signals : signals_of (book_of settings list) ≡ count list
   pub bytes : length (book_of settings list) ≡ 512 * blocks_for (count list)
 
 book_holds : (list : List ℕ) → AllBelow (2 ^ 32) list → CountInRange list → BookHolds list
 book_holds list words right =
     record {
-      sound = written_sound settings list settings_words_lem words right;
-      settings_in_lem = written_back settings list settings_words_lem words right;
-      list_in_lem = written_list settings list settings_words_lem words right;
-      signals = written_count settings list settings_words_lem words right;
+      sound = written_sound settings list are_words words right;
+      settings_back = written_back settings list are_words words right;
+      list_back = written_list settings list are_words words right;
+      signals = written_count settings list are_words words right;
       bytes = written_length settings list;
     }
 

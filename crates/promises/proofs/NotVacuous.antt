@@ -66,10 +66,10 @@ ready_no h = omega (arith, h.enough.1)
 pub ready_book_yes : Ready from_book case1_book (replicate (4 * result_size) 0)
 ready_book_yes =
     record {
-      settings = rw case1_holds.settings-in fresh_valid.settings;
-      whole = rw case1_holds.list-in case1_count;
-      signals = rw (case1_holds.settings-in, case1_holds.list-in) each_yes;
-      enough = (case1_holds.sound, omega (arith, ap count case1_holds.list-in, length-replicate {A = ℕ} 16 0));
+      settings = rw case1_holds.settings_back fresh_valid.settings;
+      whole = rw case1_holds.list_back case1_count;
+      signals = rw (case1_holds.settings_back, case1_holds.list_back) each_yes;
+      enough = (case1_holds.sound, omega (arith, ap count case1_holds.list_back, length-replicate {A = ℕ} 16 0));
     }
 
 -- ---- the plan of case 1
@@ -212,6 +212,6 @@ module _ (Gives : Routine Request PlanRoom) (l : PlanRoom) (y : Return PlanRoom)
       let number : y.number ≡ 0 =
       dite (ℕ_discrete y.number 0) (λ e. e)
       (λ n.
-      absurd ((three.refused-exactly (asked []) l y g room).0 n (λ i. slot1)
+      absurd ((three.refused_exactly (asked []) l y g room).0 n (λ i. slot1)
       (record { drawn = drawn; keeps = λ i b. absurd (omega arith) }))) in
       (number, λ k c b h. ((two.table (asked []) l y g number).empty k c b h).1 (λ i own. absurd (omega arith)))

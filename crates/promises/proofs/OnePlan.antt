@@ -114,10 +114,10 @@ module _ (slots m : ℕ) (group : ℕ → ℕ) where
         not_both n here (lower_before n here (omega (arith, sends.0)) of_unit) (sym e) sends)
         (λ u. omega (arith, a'.filling.units i j own at u))
 
-    -- a cycle below is taken before i in the second: `first_free_lem`
+    -- a cycle below is taken before i in the second: `first_free`
     no_lower_base : (frame i).slot ≡ (frame' i).slot → (frame i).base < (frame' i).base → ⊥
     no_lower_base e l =
-        let (j, at, b, sends) = a'.filling.first-free i (frame i).base own l in
+        let (j, at, b, sends) = a'.filling.first_free i (frame i).base own l in
         not_both j at b e sends
 
   module _ (frame frame' : ℕ → Frame) (a : FilledPlan frame) (a' : FilledPlan frame')

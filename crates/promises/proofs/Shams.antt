@@ -77,7 +77,7 @@ module _ (Gives : Routine Request PlanRoom) where
     pub refuses_all : 5952 ≤ length l.cells → result_size ≤ length l.results → Gives (asked case1) l y
         → (y.number ≡ 0 → ⊥) → ⊥
     refuses_all cells results g n =
-        (keeps.refused-exactly (asked case1) l y g (case1_ready l cells results)).0 n (λ i. slot1) case1_table
+        (keeps.refused_exactly (asked case1) l y g (case1_ready l cells results)).0 n (λ i. slot1) case1_table
 
     module _ (z : y.number ≡ 0) where
       -- what an accepted plan is, of results that are known
@@ -135,7 +135,7 @@ module _ (Gives : Routine (List ℕ) (List ℕ)) (keeps : Demand3 from_book Give
     (z : y.number ≡ 0) (g : Gives pair_book l y) where
   shown_plan : (bytes : List ℕ) → y.lent ≡ bytes
       → AcceptedPlan settings pair y.place (frame_of (word_at bytes)) (age_of (word_at bytes))
-  shown_plan bytes e = rw (pair_holds.settings-in, pair_holds.list-in, e) at (keeps.accepted pair_book l y g z)
+  shown_plan bytes e = rw (pair_holds.settings_back, pair_holds.list_back, e) at (keeps.accepted pair_book l y g z)
 
   -- shows two slots and claims one
   pub claims_one_slot : y.lent ≡ spread → y.place ≡ 1 → ⊥
@@ -188,11 +188,11 @@ module _ (Reads : Settings → Routine (List ℕ) (List ℕ)) (Writes : Routine 
   pub reads_exchanged : Reads (exchanged settings) case1_book l y → ⊥
   reads_exchanged r =
       let read = keeps.settings_read (exchanged settings) case1_book l y r z in
-      omega (arith, ap (λ (s : Settings). s.cycle) (read ∙ case1_holds.settings-in))
+      omega (arith, ap (λ (s : Settings). s.cycle) (read ∙ case1_holds.settings_back))
 
   pub writes_exchanged : Writes (asked case1) l y → word_at y.lent 2 ≡ 16 → ⊥
   unfolding book_of settings_in
   writes_exchanged w e =
       let front = word_in_front (book_word settings case1) 256 (drop 1024 l) 2 (lit≤ tt) in
-      let cycle = ap (λ (s : Settings). s.cycle) case1_holds.settings-in in
+      let cycle = ap (λ (s : Settings). s.cycle) case1_holds.settings_back in
       omega (arith, sym e ∙ ap (λ (b : List ℕ). word_at b 2) (keeps.written (asked case1) l y w z) ∙ front ∙ cycle)

@@ -1,4 +1,5 @@
 pub mod Patterns
+pub mod PatternLaws
 pub mod OperationLaws
 pub mod Unique
 pub mod BitLaws

@@ -2,7 +2,8 @@
 -- Assumes nothing.
 use Rattle.std.proofs.Common.{arith}
 use Rattle.cycles.proofs.MaskLaws.{mask_none}
-use Rattle.cycles.proofs.Patterns.{patterns, exponent_zeros, pattern_of}
+use Rattle.cycles.proofs.PatternLaws.{exponent_zeros, pattern_of}
+use Rattle.cycles.proofs.Patterns.{patterns}
 use Rattle.cycles.proofs.pattern.Goals as goal
 
 pub returns-then-not-is_repetition : goal.returns-then-not-is_repetition

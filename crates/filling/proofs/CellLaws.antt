@@ -12,7 +12,7 @@ use Rattle.cycles.proofs.FrameLaws.{named_remainder, remainder_named}
 use Rattle.filling.specs.declared.UnitFrame.{UnitFrame}
 use Rattle.filling.specs.Cycles.{first_free}
 use Rattle.filling.specs.Runs.{Placed, State, goes_to, placed, after}
-use Rattle.filling.proofs.CycleLaws.{first_free_lem}
+use Rattle.filling.proofs.CycleLaws.{is_first_free}
 use Rattle.filling.proofs.RunLaws.{GoesTo, goes_case, Fits}
 use Rattle.filling.proofs.RunLaws.GoesTo.{stay, turn}
 
@@ -35,7 +35,7 @@ module _ (k c : ℕ) where
   there_gone (stay h) l g = g
   there_gone {s} (turn h) l (inl b) =
       let below : k ≤ s.begun = omega arith in
-      ⊎_elim (λ e. inr (e, (first_free_lem s.cycles).before c zero-le (omega arith))) inl (eq-or-lt_of_le below)
+      ⊎_elim (λ e. inr (e, (is_first_free s.cycles).before c zero-le (omega arith))) inl (eq-or-lt_of_le below)
   there_gone (turn h) l (inr e) = absurd (e.1 refl)
 
   module _ (s : State) (f : UnitFrame) where
@@ -52,7 +52,7 @@ module _ (k c : ℕ) where
     pub passed_gone : c < 64 → Past (placed s f) k c → Gone s k c
     passed_gone l b =
         there_gone (goes_case s) l
-        (⊎_elim (λ h. inl h) (λ e. inr (e.0, (first_free_lem (goes_to s).cycles).before c zero-le e.1)) b)
+        (⊎_elim (λ h. inl h) (λ e. inr (e.0, (is_first_free (goes_to s).cycles).before c zero-le e.1)) b)
 
     module _ {first load : ℕ} (fits : Fits first load s f) where
       -- a frame sends no cell that is gone

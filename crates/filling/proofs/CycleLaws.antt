@@ -54,6 +54,6 @@ seek_first cycles (suc n) c = go (eqb (cycles c) 0) refl (seek_first cycles n (s
           found = λ h. later.found (omega arith);
         }
 
-pub first_free_lem : (cycles : Cycles) → First cycles 0 64 (first_free cycles)
+pub is_first_free : (cycles : Cycles) → First cycles 0 64 (first_free cycles)
 unfolding first_free
-first_free_lem cycles = seek_first cycles 64 0
+is_first_free cycles = seek_first cycles 64 0

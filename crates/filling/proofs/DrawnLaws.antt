@@ -61,8 +61,8 @@ module _ (list : List ℕ) (R : ℕ → ℕ) (frame : ℕ → Frame)
 
       -- ---- the slots used
 
-      slot_used : (k : ℕ) → Between 1 (needed list R) k → (j : ℕ) × Between 1 m j × ((frame j).slot ≡ k)
-      slot_used k b =
+      slot_held : (k : ℕ) → Between 1 (needed list R) k → (j : ℕ) × Between 1 m j × ((frame j).slot ≡ k)
+      slot_held k b =
           let r = filled_slots list R seven k b in
           (r.0.signal, (filled_own list R r.0 r.1).0, ap (λ (f : Frame). f.slot) (shows r.0 r.1) ∙ r.2)
 
@@ -79,22 +79,22 @@ module _ (list : List ℕ) (R : ℕ → ℕ) (frame : ℕ → Frame)
           used : ℕ → ℕ
           used k = slot_used m frame (1 + k)
 
-          in_slot_lem : (k i : ℕ) → ℕ
-          in_slot_lem k i = same (frame (1 + i)).slot (1 + k)
+          in_slot : (k i : ℕ) → ℕ
+          in_slot k i = same (frame (1 + i)).slot (1 + k)
 
           once : (k : ℕ) → k < needed list R → used k ≡ 1
           once k l =
-              let r = slot_used (1 + k) (omega arith) in
+              let r = slot_held (1 + k) (omega arith) in
               let i = r.0 - 1 in
               let place : 1 + i ≡ r.0 = omega (arith, r.1) in
               let here = same_equal (frame (1 + i)).slot (1 + k) (ap (λ (j : ℕ). (frame j).slot) place ∙ r.2) in
-              omega (arith, sum_term (in_slot_lem k) m i (omega (arith, r.1)), here)
+              omega (arith, sum_term (in_slot k) m i (omega (arith, r.1)), here)
 
           unused : (k : ℕ) → k < n - needed list R → used (needed list R + k) ≡ 0
           unused k h =
               let past = needed list R + k in
               ap (min 1)
-              (sum_zero (in_slot_lem past) m (λ i l.
+              (sum_zero (in_slot past) m (λ i l.
               same_apart (frame (1 + i)).slot (1 + past) (λ e. omega (arith, e, slot_needed (1 + i) (omega arith)))))
 
       -- ---- "Filling the table"
@@ -117,7 +117,7 @@ module _ (list : List ℕ) (R : ℕ → ℕ) (frame : ℕ → Frame)
       filled_shown =
           record {
             units = two_frames (λ i j f g. group i < group j → f.slot < g.slot) (filled_groups list R seven);
-            lowest = λ i k b l. slot_used k (omega (arith, l, slot_needed i b));
+            lowest = λ i k b l. slot_held k (omega (arith, l, slot_needed i b));
             onward =
                 two_frames (λ i j f g. Goes i j f g → f.slot ≤ g.slot)
                 (λ p q a b w. filled_onward list R seven p q a b w.0 w.1);
@@ -126,7 +126,7 @@ module _ (list : List ℕ) (R : ℕ → ℕ) (frame : ℕ → Frame)
                 (λ p q a b w l small.
                 let x = sent_before q b (filled_passed list R seven q p b a w.0 c small (inl l)) in
                 (x.0, x.1, x.3)) i j;
-            first_free_lem = λ i c.
+            first_free = λ i c.
                 each_frame
                 (λ i f. c < f.base → (j : ℕ) × Between 1 m j × Before group frame j i × Sends (frame j) f.slot c)
                 (λ p a l.

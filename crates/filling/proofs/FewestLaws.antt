@@ -36,8 +36,8 @@ module _ (n m : ℕ) (group : ℕ → ℕ) (frame : ℕ → Frame) (drawn : Draw
   abbrev share : ℕ → ℕ
   share i = 64 / R (1 + i)
 
-  in_slot_lem : (g k i : ℕ) → 1 ≤ in_slot g k i → (group (1 + i) ≡ g) × ((frame (1 + i)).slot ≡ 1 + k)
-  in_slot_lem g k i h =
+  in_slot_says : (g k i : ℕ) → 1 ≤ in_slot g k i → (group (1 + i) ≡ g) × ((frame (1 + i)).slot ≡ 1 + k)
+  in_slot_says g k i h =
       let f = factors_positive (same (group (1 + i)) g) (same (frame (1 + i)).slot (1 + k)) h in
       (same_one (group (1 + i)) g f.0, same_one (frame (1 + i)).slot (1 + k) f.1)
 
@@ -58,7 +58,7 @@ module _ (n m : ℕ) (group : ℕ → ℕ) (frame : ℕ → Frame) (drawn : Draw
           let f = factors_positive (in_slot g k i) (takes_at c i) x in
           let d = drawn.frames (1 + i) (omega arith) in
           let base = same_one (frame (1 + i)).base (c % R (1 + i)) f.1 in
-          ((in_slot_lem g k i f.0).1, remainder_named d.repetition d.base (sym base))
+          ((in_slot_says g k i f.0).1, remainder_named d.repetition d.base (sym base))
 
       apart : (i j : ℕ) → i < m → j < m → 1 ≤ in_slot g k i * takes_at c i → 1 ≤ in_slot g k j * takes_at c j → i ≡ j
       apart i j a b x y =
@@ -116,8 +116,8 @@ module _ (n m : ℕ) (group : ℕ → ℕ) (frame : ℕ → Frame) (drawn : Draw
       same_owner h j x y =
           let a = sum_some (in_slot h k) m (omega (arith, x)) in
           let b = sum_some (in_slot j k) m (omega (arith, y)) in
-          let p = in_slot_lem h k a.0 a.2 in
-          let q = in_slot_lem j k b.0 b.2 in
+          let p = in_slot_says h k a.0 a.2 in
+          let q = in_slot_says j k b.0 b.2 in
           sym p.0
           ∙ drawn.one_group (1 + a.0) (1 + b.0) (omega (arith, a.1)) (omega (arith, b.1)) (p.1 ∙ sym q.1)
           ∙ q.0

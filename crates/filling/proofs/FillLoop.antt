@@ -23,7 +23,7 @@ use Rattle.filling.specs.Runs.{Placed, State, placed, after}
 use Rattle.filling.specs.Filled.{needed, fill_from, filled}
 use Rattle.filling.specs.Shown.{CellsShow, ResultsShow}
 use Rattle.filling.specs.Outcomes.{repetition_in}
-use Rattle.filling.specs.Private.{Holding, Stepped, Paintable, placed_at, FrameShown, Runnable, Ran}
+use Rattle.filling.specs.Private.{Holding, Stepped, Paintable, placed_at, FrameShown, Runnable, Ran, OrderedAll}
 use Rattle.filling.specs.Private.Stepped.{goes, trouble}
 use Rattle.filling.proofs.RunLaws.{Fits, goes_case, goes_next}
 use Rattle.filling.proofs.GroupLaws.{stepped, stepped_each, Untroubled}
@@ -215,3 +215,13 @@ module _ (s : Settings) (list words cells₀ results₀ : List ℕ) where
           let over : drop i fs ≡ [] = drop_of_length-le fs past in
           let all : g.places ≡ filled list R = rw (over, append-nil) at g.left in
           record { none = refl; table = rw all at g.table; shown = rw all at g.shown }
+
+-- before each frame of the order that the code goes through, what is known of it
+pub at_next : {s : Settings} {list words begun₀ cells₀ results₀ cells results begun free : List ℕ} {i : ℕ}
+    (m : ℕ) (array : List UnitFrame) (d : UnitFrame) → Runnable s list words begun₀ cells₀ results₀
+    → Filling s list words cells₀ results₀ cells results begun free i → m ≡ count list → OrderedAll words m array → i < m
+    → AtFrame s list words cells₀ results₀ cells results begun free i (get_or array i d)
+at_next {s} {list} {words} {begun₀} {cells₀} {results₀} {cells} {results} {begun} {free} {i} m array d runs g e right h =
+    let before : i < count list = omega arith in
+    at_frame s list words cells₀ results₀ begun₀ runs cells results begun free i g before (get_or array i d)
+    (next_frame list (repetition_in words) array i d (rw e at right) before)

@@ -54,6 +54,7 @@ module _ (group : ℕ → ℕ) where
   pub place_for : (fs : List UnitFrame) (states : ℕ → State) {f : UnitFrame} → Memᴰ f fs
       → (p : Placed) × Among states fs p × (turn_of p ≡ f)
   unfolding fill_from
+  place_for [] states m = absurd (Memᴰ.not-nil m)
   place_for (x ∷ fs) states (Memᴰ.head e) = (place_of states x, Memᴰ.head refl, sym e)
   place_for (x ∷ fs) states (Memᴰ.tail m) =
       let r = place_for fs (stepped group states x) m in (r.0, Memᴰ.tail r.1, r.2)

@@ -20,7 +20,7 @@ use Rattle.cycles.specs.Loads.{slots_for}
 use Rattle.filling.specs.declared.UnitFrame.{UnitFrame}
 use Rattle.filling.specs.Cycles.{takes, seek, first_free}
 use Rattle.filling.specs.Runs.{State, start, next, goes_to, placed, after}
-use Rattle.filling.proofs.CycleLaws.{takes_sum, share_positive, first_free_lem}
+use Rattle.filling.proofs.CycleLaws.{takes_sum, share_positive, is_first_free}
 
 -- behind k slots of others, where `left` of a load is to come and the last repetition was Q: no cycle is taken twice,
 -- what is taken repeats after Q cycles, and the slots begun are full but for the current one's free cycles
@@ -78,7 +78,7 @@ goes_good g (stay h) = g
 goes_good {s = s} g (turn h) =
     -- a slot with no free cycle is full
     let each : (c : ℕ) → c < 64 → s.cycles c ≡ 1 = λ c l.
-    let taken : s.cycles c ≡ 0 → ⊥ = (first_free_lem s.cycles).before c zero-le (omega arith) in
+    let taken : s.cycles c ≡ 0 → ⊥ = (is_first_free s.cycles).before c zero-le (omega arith) in
     omega (arith, g.once c) in
     omega (arith, g.part, g.full, sum_ext s.cycles (λ c. 1) 64 each, sum_const 1 64, sum_const 0 64)
 
@@ -107,12 +107,12 @@ module _ (k load left : ℕ) (s : State) (f : UnitFrame) (seven : Repetition f.r
     here = goes_good good (goes_case s)
 
     found : (goes_to s).cycles base ≡ 0
-    found = (first_free_lem (goes_to s).cycles).found (goes_free (goes_case s))
+    found = (is_first_free (goes_to s).cycles).found (goes_free (goes_case s))
 
     below_repetition : base < R
     below_repetition =
         dite (dec_lt (base % R) base)
-        (λ l. absurd ((first_free_lem (goes_to s).cycles).before (base % R) zero-le l (sym (here.again base) ∙ found)))
+        (λ l. absurd ((is_first_free (goes_to s).cycles).before (base % R) zero-le l (sym (here.again base) ∙ found)))
         (λ l. omega (arith, mod-lt base (repetition_positive R seven), mod-le base R))
 
     all_free : (c : ℕ) → c % R ≡ base → (goes_to s).cycles c ≡ 0

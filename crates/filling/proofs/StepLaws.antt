@@ -24,14 +24,14 @@ use Rattle.filling.specs.Cycles.{Cycles, takes, first_free}
 use Rattle.filling.specs.Runs.{State, start, goes_to, after}
 use Rattle.filling.specs.Private.{Holds, Holding, NoTrouble, Stepped}
 use Rattle.filling.specs.Private.Stepped.{goes}
-use Rattle.filling.proofs.CycleLaws.{first_free_lem}
+use Rattle.filling.proofs.CycleLaws.{is_first_free}
 
 -- ---- the cycles that a slot's record holds
 
 -- the record's first free cycle is the state's
 first_alike : (cycles : Cycles) (s : Slot) → Holds cycles s.free → (r : ℕ) → FirstFree s r → r ≡ first_free cycles
 first_alike cycles s h r f =
-    let w = first_free_lem cycles in
+    let w = is_first_free cycles in
     first_free_unique s r (first_free cycles) f
     (record {
       within = w.within;

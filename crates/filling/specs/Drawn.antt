@@ -49,7 +49,7 @@ pub record FillingShown (m : ℕ) (group : ℕ → ℕ) (frame : ℕ → Frame) 
       c < 64 →
       InUse m frame (frame i).slot c
   -- ".. with the first free cycle as its base": those below are taken by frames before it
-  pub first_free_lem :
+  pub first_free :
       (i c : ℕ) →
       Between 1 m i →
       c < (frame i).base →

@@ -11,7 +11,7 @@ use cycles::Tally;
 pub(crate) const GROUPS: usize = 256;
 
 // The slots before each group, and those of all.
-#[derive(Drop)]
+#[derive(Clone, Copy)]
 pub struct Starts {
     pub begun: [u32; GROUPS],
     pub needed: u32,

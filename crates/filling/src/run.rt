@@ -10,14 +10,14 @@ use cycles::Slot;
 use terms::{Frame, Settings};
 
 // The slots begun, and the last of them, which is being filled.
-#[derive(Drop)]
+#[derive(Clone, Copy)]
 pub struct Current {
     pub slot: Slot,
     pub begun: u32,
 }
 
 // A frame with its place, and the slot after it; or a frame in trouble.
-#[derive(Drop)]
+#[derive(Clone, Copy)]
 pub enum Step {
     At(Frame, Current),
     Trouble,

@@ -1,0 +1,17 @@
+-- `filling::show::show` meets its contract: the age of the frame, its result put and its cells painted.
+-- Assumes nothing.
+use Rattle.std.proofs.Common.{refl}
+use Rattle.filling.proofs.show.show.Goals as goal
+
+pub returns : goal.returns
+returns c =
+    let given = rw c.signal_at.ensures at c.age-age.ensures in
+    record {
+      painted = c.paint.ensures;
+      resulted =
+          record {
+            result = record { frame = c.args.f; age = c.age-age.result };
+            right = record { frame = refl; age = given };
+            put = c.put_result.ensures;
+          };
+    }

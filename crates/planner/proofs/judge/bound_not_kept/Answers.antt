@@ -1,7 +1,6 @@
 -- `planner::judge::bound_not_kept` meets its contract: what each turn finds is the largest that keeps the signal's bound.
 -- Assumes nothing.
-use Rattle.std.proofs.Common.{◌≡◌, arith, length}
-use Prim.Native.Nat.{◌≤◌}
+use Rattle.std.proofs.Common.{arith}
 use native.Mathlib.Nat.{pos_of_ne-zero}
 use Rattle.rule.specs.Rule.{Keeps, segment, Largest}
 use Rattle.terms.specs.Lists.{signal_at}

@@ -2,7 +2,7 @@
 -- block; what stands in a block that is written.
 -- Assumes nothing.
 use Rattle.std.proofs.Common.{◌≡◌, ℕ, zero, suc, ◌+◌, ◌-◌, ◌*◌, ◌<◌, ◌≤◌, min, List, [], ◌∷◌, length, get_or, drop, refl, ap, ◌∙◌, subst, arith, lit≤, length-drop, length-take, get_or-drop, get_or-take, ne_eqb}
-use lib.ListN.{get_or-eq_default}
+use Rattle.std.proofs.Math.ListN.{get_or-eq_default}
 use Rattle.laws.specs.Lowest.{EachTo, LowestWithout}
 use Rattle.laws.proofs.LowestLaws.{lowest_not_each}
 use Rattle.terms.specs.declared.Settings.{Settings}

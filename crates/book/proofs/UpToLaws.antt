@@ -4,8 +4,8 @@
 use Rattle.std.proofs.Common.{◌≡◌, ℕ, zero, suc, ◌+◌, ◌/◌, ◌%◌, ◌^◌, ◌<◌, List, [], ◌∷◌, ◌++◌, length, get_or, drop, set, sym, refl, ap, ◌∙◌, not-suc-le-zero, add-one, arith, length-append, length-set, drop-cons, ext_get_or, below_more}
 use mathlib.Core.Logic.{dite}
 use native.Mathlib.Decide.{ℕ_discrete}
-use lib.ListN.{get_or-append}
-use lib.Seq.{set_at, get_or_at, append_snoc}
+use Rattle.std.proofs.Math.ListN.{get_or-append}
+use Rattle.std.proofs.Math.Seq.{set_at, get_or_at, append_snoc}
 use Rattle.laws.specs.Sums.{sum}
 use Rattle.laws.proofs.SumLaws.{sum_none, sum_more, sum_ext}
 use Rattle.book.specs.Words.{up_to, check_of}

@@ -5,7 +5,7 @@ use mathlib.Core.Logic.{dite}
 use native.Mathlib.Nat.{div-div-eq-div-mul}
 use borrow.Author.Tests.{lt-leb}
 use native.Mathlib.Decide.{dec_lt}
-use lib.ListN.{get_or-eq_default, get_or-append}
+use Rattle.std.proofs.Math.ListN.{get_or-eq_default, get_or-append}
 use Rattle.laws.specs.Stored.{stored_from}
 use Rattle.book.specs.Words.{AllBelow, up_to, word_of, byte_at, word_at, byte_of, byte_in}
 use Rattle.book.specs.Words.{bytes_of, bytes_over, bytes_after}

@@ -1,6 +1,7 @@
 // The book of blocks: settings and a list of signals as bytes, read, written, and lent a signal at a time.
 // Promises: each public routine's answer and every lent word and byte at exit are fixed by what it was given.
 #![tactic(auto)]
+
 mod layout;
 mod reader;
 mod words;
@@ -19,7 +20,7 @@ use terms::{Answer, SIGNAL_WORDS, Settings};
 use words::put_word;
 use writer::fill;
 
-#[derive(Drop)]
+#[derive(Clone, Copy)]
 pub struct Reading {
     pub answer: Answer,
     pub settings: Settings,

@@ -16,7 +16,7 @@ use crate::words::word;
 use terms::{Answer, MOST_SIGNALS, SIGNAL_WORDS, Settings};
 
 // What a block is tested for, in the order of the refusals 2 to 5.
-#[derive(Drop)]
+#[derive(Clone, Copy)]
 enum Test {
     Check,
     Kind,

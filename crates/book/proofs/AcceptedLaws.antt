@@ -1,6 +1,7 @@
 -- A sound book: each of its words is the word that writing makes of the settings and the list that are read from it.
 -- Assumes nothing.
-use Rattle.std.proofs.Common.{◌≡◌, ℕ, zero, suc, ◌+◌, ◌-◌, ◌*◌, ◌/◌, ◌%◌, ◌<◌, List, length, get_or, sym, refl, ap, ◌∙◌, arith}
+use Rattle.std.proofs.Common.{◌≡◌, ℕ, zero, suc, ◌+◌, ◌-◌, ◌*◌, ◌/◌, ◌%◌, ◌<◌, List, length, get_or, sym, refl, ap}
+use Rattle.std.proofs.Common.{◌∙◌, arith}
 use mathlib.Core.Logic.{dite}
 use native.Mathlib.Decide.{dec_lt}
 use Rattle.laws.specs.Rows.{Hold}
@@ -35,7 +36,8 @@ module _ (b : List ℕ) (sound : Hold (book_rows b)) where
   -- ---- its words
 
   -- a word of a block's own
-  own : (k w : ℕ) → k < blocks_in b → w < used_in (signals_of b) k → in_block b k w ≡ body_word (settings_in b) (list_in b) k w
+  own : (k w : ℕ) → k < blocks_in b → w < used_in (signals_of b) k
+      → in_block b k w ≡ body_word (settings_in b) (list_in b) k w
   unfolding settings_in settings_words signal_words list_word
   own k zero h v = (sound_kind b sound k h).0
   own k (suc zero) h v = (sound_kind b sound k h).1

@@ -1,6 +1,8 @@
 -- Laws of a book's blocks: the i-th block is block i - 1; what stands in a block that is written.
 -- Assumes nothing.
-use Rattle.std.proofs.Common.{◌≡◌, ℕ, zero, suc, ◌+◌, ◌-◌, ◌*◌, ◌<◌, ◌≤◌, min, List, [], ◌∷◌, length, get_or, drop, refl, ◌∙◌, subst, arith, lit≤, length-drop, length-take, get_or-drop, get_or-take, ne_eqb}
+use Rattle.std.proofs.Common.{◌≡◌, ℕ, zero, suc, ◌+◌, ◌-◌, ◌*◌, ◌<◌, ◌≤◌, min, List, [], ◌∷◌, length, get_or, drop}
+use Rattle.std.proofs.Common.{refl, ◌∙◌, subst, arith, lit≤, length-drop, length-take, get_or-drop, get_or-take}
+use Rattle.std.proofs.Common.{ne_eqb}
 use Rattle.std.proofs.Math.ListN.{get_or-eq_default}
 use Rattle.laws.specs.Lowest.{EachTo, LowestWithout}
 use Rattle.laws.proofs.LowestLaws.{lowest_not_each}
@@ -62,7 +64,8 @@ section_own : (n m k : ℕ) → n ≡ signal_size * m
     → min section_size (n - section_size * k) ≤ signal_size * min per_block (m - per_block * k)
 section_own n m k e = omega arith
 
-content_own : (s : Settings) (l : List ℕ) → CountInRange l → (k : ℕ) → 2 + length (content_of s l k) ≤ used_in (count l) k
+content_own : (s : Settings) (l : List ℕ) → CountInRange l → (k : ℕ)
+    → 2 + length (content_of s l k) ≤ used_in (count l) k
 unfolding settings_words signal_words
 content_own s l right zero = lit≤ tt
 content_own s l right (suc k) =

@@ -1,6 +1,7 @@
 -- The part of a book for signal i: every book has it or has not; it lies in the book and holds the signal's words.
 -- Assumes nothing.
-use Rattle.std.proofs.Common.{◌≡◌, ℕ, ◌+◌, ◌-◌, ◌*◌, ◌/◌, ◌%◌, ◌<◌, ◌≤◌, ◌⊎◌, List, length, get_or, drop, sym, ap, ◌∙◌, inl, inr, ⊎_elim, arith, length-drop, length-take}
+use Rattle.std.proofs.Common.{◌≡◌, ℕ, ◌+◌, ◌-◌, ◌*◌, ◌/◌, ◌%◌, ◌<◌, ◌≤◌, ◌⊎◌, List, length, get_or, drop, sym, ap}
+use Rattle.std.proofs.Common.{◌∙◌, inl, inr, ⊎_elim, arith, length-drop, length-take}
 use mathlib.Core.Logic.Dec
 use mathlib.Core.Logic.{dite}
 use native.Mathlib.Decide.{dec_le}
@@ -28,7 +29,8 @@ part_inside b i has =
 
 -- the part that the contract gives for signal i of a sound book: twenty bytes, the signal's five words
 pub part_holds : {b r : List ℕ} {place start : ℕ × ℕ} {i : ℕ} → PartOutcome b place i r start → HasSignal b i
-    → (length r ≡ part_size) × ((j : ℕ) → j < signal_size → word_at r j ≡ get_or (list_in b) (entry_start signal_size i + j) 0)
+    → (length r ≡ part_size)
+    × ((j : ℕ) → j < signal_size → word_at r j ≡ get_or (list_in b) (entry_start signal_size i + j) 0)
 unfolding list_word
 part_holds {b} {i = i} outcome has =
     rw (outcome.has has).0 (

@@ -1,7 +1,8 @@
 -- Reading what was written gives the same values; writing what was read gives the same bytes; two different sound books
 -- never read alike. For all settings and lists of words below 2 ^ 32 and all books of bytes below 256.
 -- Assumes nothing.
-use Rattle.std.proofs.Common.{◌≡◌, ℕ, ◌*◌, ◌^◌, ◌≤◌, List, [], ◌++◌, length, take, drop, sym, ap, ◌∙◌, arith, lit<, lit≤}
+use Rattle.std.proofs.Common.{◌≡◌, ℕ, ◌*◌, ◌^◌, ◌≤◌, List, [], ◌++◌, length, take, drop, sym, ap, ◌∙◌, arith, lit<}
+use Rattle.std.proofs.Common.{lit≤}
 use Rattle.laws.proofs.RowLaws.{holds_zero}
 use Rattle.terms.specs.declared.Settings.{Settings}
 use Rattle.terms.specs.declared.Answer.{Answer}
@@ -47,8 +48,8 @@ read_then_write {b} {room = room} bytes read z enough outcome =
     let write = rw (g.settings, g.signals, g.words) at outcome in
     let blocks = ap blocks_for (list_count b) ∙ sym (sound_count b g.sound).1 in
     let size : 512 * blocks_for (count (list_in b)) ≡ length b = omega (arith, (sound_length b g.sound).whole) in
-    let (done, place) = holds_zero (λ p. p ≡ blocks_for (count (list_in b))) _ _ (writing_rows (list_in b) (length room))
-    (list_in_range b g.sound, (omega arith, tt)) write.answer in
+    let (done, place) = holds_zero (λ p. p ≡ blocks_for (count (list_in b))) _ _
+    (writing_rows (list_in b) (length room)) (list_in_range b g.sound, (omega arith, tt)) write.answer in
     (done, place ∙ blocks, write.done done ∙ (λ i. sound_written b g.sound bytes i ++ drop (size i) room))
 
 -- two different sound books never read alike: accepted with the same outcome, they are the same book

@@ -1,7 +1,8 @@
 -- Laws of a sound book: what its rows say of each block, what an answer by them tells, and that every book has an
 -- answer, so that it is sound or is not.
 -- Assumes nothing.
-use Rattle.std.proofs.Common.{◌≡◌, ℕ, zero, suc, ◌+◌, ◌-◌, ◌*◌, ◌%◌, ◌<◌, ◌≤◌, ◌⊎◌, List, [], ◌∷◌, length, sym, refl, inl, inr, ⊎_elim, arith, lit≤}
+use Rattle.std.proofs.Common.{◌≡◌, ℕ, zero, suc, ◌+◌, ◌-◌, ◌*◌, ◌%◌, ◌<◌, ◌≤◌, ◌⊎◌, List, [], ◌∷◌, length, sym, refl}
+use Rattle.std.proofs.Common.{inl, inr, ⊎_elim, arith, lit≤}
 use mathlib.Core.Logic.Dec
 use mathlib.Core.Logic.{dite}
 use native.Mathlib.Decide.{ℕ_discrete, dec_le, dec_lt, map_dec}
@@ -56,10 +57,13 @@ book_single b =
 
 module _ (b : List ℕ) (lent : ℕ) where
   pub reading_numbered : Numbered (reading_rows b lent)
-  reading_numbered = numbered_join (book_rows b) (room_row (signal_size * signals_of b) lent ∷ []) (book_numbered b) (lit≤ tt, tt)
+  reading_numbered =
+      numbered_join (book_rows b) (room_row (signal_size * signals_of b) lent ∷ []) (book_numbered b) (lit≤ tt, tt)
 
   pub reading_single : Single (reading_rows b lent)
-  reading_single = single_join (book_rows b) (room_row (signal_size * signals_of b) lent ∷ []) (book_single b) ((λ p q d e. omega arith), tt)
+  reading_single =
+      single_join (book_rows b) (room_row (signal_size * signals_of b) lent ∷ []) (book_single b)
+      ((λ p q d e. omega arith), tt)
 
 module _ (b : List ℕ) (a : Answer) (f : Answers (book_rows b) (λ p. p ≡ signals_of b) a) where
   pub judged_sound : number_of a ≡ 0 → Hold (book_rows b) × (place_of a ≡ signals_of b)
@@ -107,7 +111,10 @@ module _ (b : List ℕ) where
   pub book_answerable : Answerable (book_rows b)
   book_answerable = (
     (λ p e. (Length, refl, sym e)),
-    ((λ p f. (Check p, refl, refl)), ((λ p f. (Kind p, refl, refl)), ((λ p e. (Count, refl, sym e)), ((λ p f. (Zero p, refl, refl)), tt)))),
+    (
+      (λ p f. (Check p, refl, refl)),
+      ((λ p f. (Kind p, refl, refl)), ((λ p e. (Count, refl, sym e)), ((λ p f. (Zero p, refl, refl)), tt))),
+    ),
   )
 
   pub book_answer : (a : Answer) × Answers (book_rows b) (λ p. p ≡ signals_of b) a

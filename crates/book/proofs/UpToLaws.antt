@@ -1,7 +1,9 @@
 -- Laws of runs by position: the list of the first values of a function, such a list written over what was lent, and the
 -- sum of which a check is made.
 -- Assumes nothing.
-use Rattle.std.proofs.Common.{◌≡◌, ℕ, zero, suc, ◌+◌, ◌/◌, ◌%◌, ◌^◌, ◌<◌, List, [], ◌∷◌, ◌++◌, length, get_or, drop, set, sym, refl, ap, ◌∙◌, not-suc-le-zero, add-one, arith, length-append, length-set, drop-cons, ext_get_or, below_more}
+use Rattle.std.proofs.Common.{◌≡◌, ℕ, zero, suc, ◌+◌, ◌/◌, ◌%◌, ◌^◌, ◌<◌, List, [], ◌∷◌, ◌++◌, length, get_or, drop}
+use Rattle.std.proofs.Common.{set, sym, refl, ap, ◌∙◌, not-suc-le-zero, add-one, arith, length-append, length-set}
+use Rattle.std.proofs.Common.{drop-cons, ext_get_or, below_more}
 use mathlib.Core.Logic.{dite}
 use native.Mathlib.Decide.{ℕ_discrete}
 use Rattle.std.proofs.Math.ListN.{get_or-append}

@@ -1,6 +1,8 @@
 -- Laws of words in bytes: how bytes become words and words bytes, each over the position.
 -- Assumes nothing.
-use Rattle.std.proofs.Common.{◌≡◌, ℕ, zero, suc, ◌+◌, ◌*◌, ◌/◌, ◌%◌, ◌^◌, ◌<◌, ◌≤◌, List, ◌++◌, length, get_or, take, drop, set, sym, ap, ◌∙◌, add-zero, mod-lt, arith, lit<, lit≤, get_or-drop, get_or-take, le-leb}
+use Rattle.std.proofs.Common.{◌≡◌, ℕ, zero, suc, ◌+◌, ◌*◌, ◌/◌, ◌%◌, ◌^◌, ◌<◌, ◌≤◌, List, ◌++◌, length, get_or, take}
+use Rattle.std.proofs.Common.{drop, set, sym, ap, ◌∙◌, add-zero, mod-lt, arith, lit<, lit≤, get_or-drop, get_or-take}
+use Rattle.std.proofs.Common.{le-leb}
 use mathlib.Core.Logic.{dite}
 use native.Mathlib.Nat.{div-div-eq-div-mul}
 use borrow.Author.Tests.{lt-leb}
@@ -67,7 +69,8 @@ word_same : (f g : ℕ → ℕ) → ((i : ℕ) → i < 4 → f i ≡ g i) → wo
 word_same f g same =
     λ k. same 0 (lit< tt) k + 256 * same 1 (lit< tt) k + 65536 * same 2 (lit< tt) k + 16777216 * same 3 (lit< tt) k
 
-pub words_same : (b c : List ℕ) (p q : ℕ) → ((i : ℕ) → i < 4 → byte_at b p i ≡ byte_at c q i) → word_at b p ≡ word_at c q
+pub words_same : (b c : List ℕ) (p q : ℕ) → ((i : ℕ) → i < 4 → byte_at b p i ≡ byte_at c q i)
+    → word_at b p ≡ word_at c q
 unfolding word_at
 words_same b c p q = word_same (byte_at b p) (byte_at c q)
 
@@ -124,7 +127,8 @@ word_of_part b at n q j e h =
     rw (← place) (get_or-take n (drop at b) (4 * j + i) 0 (omega arith) ∙ get_or-drop at b (4 * j + i) 0))
 
 -- a word, and a byte, in front of other bytes
-pub word_in_front : (f : ℕ → ℕ) (n : ℕ) (rest : List ℕ) (p : ℕ) → p < n → word_at (bytes_of f n ++ rest) p ≡ word_at (bytes_of f n) p
+pub word_in_front : (f : ℕ → ℕ) (n : ℕ) (rest : List ℕ) (p : ℕ) → p < n
+    → word_at (bytes_of f n ++ rest) p ≡ word_at (bytes_of f n) p
 word_in_front f n rest p h =
     words_same (bytes_of f n ++ rest) (bytes_of f n) p p
     (λ i l. get_or-append (bytes_of f n) rest 0 (4 * p + i) (omega (arith, bytes_length f n)))
@@ -136,7 +140,8 @@ byte_in_front f n rest j h =
     (mod-lt (f (j / 4) / 256 ^ (j % 4)) (lit≤ tt))
 
 -- bytes are the same where their words are
-pub same_bytes : (a b : List ℕ) (m : ℕ) → ((j : ℕ) → j < 4 * m → get_or a j 0 < 256) → ((j : ℕ) → j < 4 * m → get_or b j 0 < 256)
+pub same_bytes : (a b : List ℕ) (m : ℕ) → ((j : ℕ) → j < 4 * m → get_or a j 0 < 256)
+    → ((j : ℕ) → j < 4 * m → get_or b j 0 < 256)
     → ((p : ℕ) → p < m → word_at a p ≡ word_at b p) → (j : ℕ) → j < 4 * m → get_or a j 0 ≡ get_or b j 0
 same_bytes a b m h k words j l =
     sym (byte_of_word a j (λ i d. h (4 * (j / 4) + i) (omega arith)))

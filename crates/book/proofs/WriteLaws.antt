@@ -1,6 +1,7 @@
 -- Laws of writing: one for each way out, by which every list has an outcome; and what a caller learns from the answer.
 -- Assumes nothing.
-use Rattle.std.proofs.Common.{◌≡◌, ℕ, ◌*◌, ◌<◌, ◌≤◌, List, ◌++◌, length, take, drop, refl, inl, inr, lt_of_not-le, arith, lit≤, take_at}
+use Rattle.std.proofs.Common.{◌≡◌, ℕ, ◌*◌, ◌<◌, ◌≤◌, List, ◌++◌, length, take, drop, refl, inl, inr, lt_of_not-le}
+use Rattle.std.proofs.Common.{arith, lit≤, take_at}
 use mathlib.Core.Logic.{dite}
 use native.Mathlib.Decide.{dec_le}
 use Rattle.laws.proofs.RowLaws.{zero_holds}

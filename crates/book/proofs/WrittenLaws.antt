@@ -1,6 +1,7 @@
 -- The book of given values, read: each of its words is the one that was meant, it is sound, and gives the values back.
 -- Assumes nothing.
-use Rattle.std.proofs.Common.{◌≡◌, ℕ, zero, suc, ◌+◌, ◌-◌, ◌*◌, ◌/◌, ◌%◌, ◌^◌, ◌<◌, List, ◌∷◌, length, get_or, take, drop, sym, refl, ap, ◌∙◌, arith, lit<, length-take, get_or-drop, get_or-take}
+use Rattle.std.proofs.Common.{◌≡◌, ℕ, zero, suc, ◌+◌, ◌-◌, ◌*◌, ◌/◌, ◌%◌, ◌^◌, ◌<◌, List, ◌∷◌, length, get_or, take}
+use Rattle.std.proofs.Common.{drop, sym, refl, ap, ◌∙◌, arith, lit<, length-take, get_or-drop, get_or-take}
 use mathlib.Core.Logic.{dite}
 use native.Mathlib.Decide.{dec_lt}
 use Rattle.laws.specs.Rows.{Hold}
@@ -82,7 +83,8 @@ module _ (s : Settings) (l : List ℕ) (settings : AreWords s) (fit : AllBelow (
   written_share : (k : ℕ) → k < blocks_in (book_of s l) → CountRight (book_of s l) k
   unfolding signal_words
   written_share zero h = (omega (arith, right.few, written_count), written_blocks ∙ ap blocks_for (sym written_count))
-  written_share (suc k) h = written_body (suc k) h 2 (lit< tt) ∙ ap (λ (m : ℕ). signals_in m (suc k)) (sym written_count)
+  written_share (suc k) h =
+      written_body (suc k) h 2 (lit< tt) ∙ ap (λ (m : ℕ). signals_in m (suc k)) (sym written_count)
 
   written_zeros : (k : ℕ) → k < blocks_in (book_of s l) → ZerosRight (book_of s l) k
   written_zeros k h w used v = written_body k h w v ∙ body_zero s l right k w (rw written_count at used)

@@ -1,6 +1,7 @@
 -- The book of given settings and a given list, block by block, as "The book of blocks" lays it out; and what is asked
 -- before it is written.
-use Rattle.std.specs.Prelude.{ℕ, zero, suc, ◌+◌, ◌-◌, ◌*◌, ◌/◌, ◌%◌, ◌^◌, ◌<◌, min, cond, List, [], ◌∷◌, ◌++◌, take, drop, ◌==◌, slice_index}
+use Rattle.std.specs.Prelude.{ℕ, zero, suc, ◌+◌, ◌-◌, ◌*◌, ◌/◌, ◌%◌, ◌^◌, ◌<◌, min, cond, List, [], ◌∷◌, ◌++◌, take}
+use Rattle.std.specs.Prelude.{drop, ◌==◌, slice_index}
 use Rattle.laws.specs.Rows.{Row}
 use Rattle.terms.specs.declared.Settings.{Settings}
 use Rattle.terms.specs.Ranges.{SettingEntry, setting_table}

@@ -1,5 +1,6 @@
 -- Words and bytes by their position: a word is four bytes, the lowest first. Blocks and books are said through these.
-use Rattle.std.specs.Prelude.{ℕ, zero, suc, ◌+◌, ◌*◌, ◌/◌, ◌%◌, ◌^◌, ◌<◌, cond, List, [], ◌∷◌, ◌++◌, length, drop, nat_le, slice_index}
+use Rattle.std.specs.Prelude.{ℕ, zero, suc, ◌+◌, ◌*◌, ◌/◌, ◌%◌, ◌^◌, ◌<◌, cond, List, [], ◌∷◌, ◌++◌, length, drop}
+use Rattle.std.specs.Prelude.{nat_le, slice_index}
 use Rattle.laws.specs.Sums.{sum}
 
 -- each number of a list is below n: a byte is below 256, a word below 2 ^ 32

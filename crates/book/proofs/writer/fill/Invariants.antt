@@ -1,5 +1,5 @@
--- The loop of `book::writer::fill`: the bytes of the first p words are the book's, what lies behind is as it was, and the
--- check so far is that of 1 and the words of the block before.
+-- The loop of `book::writer::fill`: the bytes of the first p words are the book's, what lies behind is as it was, and
+-- the check so far is that of 1 and the words of the block before.
 use Rattle.std.proofs.Common.{◌≡◌, ◌+◌, ◌-◌, ◌/◌, ◌%◌, ◌^◌, ◌≤◌}
 use Rattle.laws.specs.Sums.{sum}
 use Rattle.book.specs.Blocks.{body_word, book_word}

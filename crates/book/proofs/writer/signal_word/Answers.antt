@@ -1,6 +1,7 @@
 -- `book::writer::signal_word` meets its contract: the share, then the words of the list, and zero past them.
 -- Assumes nothing.
-use Rattle.std.proofs.Common.{◌≡◌, ℕ, suc, ◌+◌, ◌-◌, ◌*◌, ◌<◌, ◌≤◌, List, get_or, drop, sym, ap, ◌∙◌, arith, length-take}
+use Rattle.std.proofs.Common.{◌≡◌, ℕ, suc, ◌+◌, ◌-◌, ◌*◌, ◌<◌, ◌≤◌, List, get_or, drop, sym, ap, ◌∙◌, arith}
+use Rattle.std.proofs.Common.{length-take}
 use Rattle.std.proofs.Math.ListN.{get_or-eq_default}
 use Rattle.book.specs.Blocks.{section_size, signals_in, signal_words}
 use Rattle.book.proofs.BlockLaws.{signal_listed}

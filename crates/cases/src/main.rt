@@ -1,7 +1,8 @@
 // Runs the cases of "Examples with numbers" through the routines and writes what they give, a line each.
 // The file `stdout` holds 01's numbers; the starred ones are also proved, of the definitions, in proofs/Starred.antt.
 #![tactic(auto)]
-use libc::STDOUT_FILENO;
+
+use std::io;
 use terms::{Frame, Settings, Signal};
 
 // Unless said otherwise: cycle 2,500, slot 16, 93 slots, packing 0, payload 8.
@@ -26,33 +27,26 @@ fn signal(period: u32, offset: u32, bound: u32) -> Signal {
     }
 }
 
-fn write(n: u32) {
-    io::print_decimal(STDOUT_FILENO, n as u64);
-}
-
 // The case's number and the signal's repetition, 0 where it is refused.
-fn gets(case: u32, s: Settings, x: Signal) {
-    io::write_all(STDOUT_FILENO, b"case ");
-    write(case);
-    io::write_all(STDOUT_FILENO, b": repetition ");
-    write(rule::repetition(s, x));
-    io::write_all(STDOUT_FILENO, b"\n");
+fn gets(rt: &impl Print, case: u32, s: Settings, x: Signal) -> io::Result<()> {
+    println!(rt; "case {case}: repetition {}", rule::repetition(s, x))
 }
 
 // The case's number and the signal's age in a slot, at base 0.
-fn shows(case: u32, s: Settings, x: Signal, slot: u32, repetition: u32) {
+fn shows(
+    rt: &impl Print,
+    case: u32,
+    s: Settings,
+    x: Signal,
+    slot: u32,
+    repetition: u32,
+) -> io::Result<()> {
     let f = Frame {
         slot,
         repetition,
         base: 0,
     };
-    io::write_all(STDOUT_FILENO, b"case ");
-    write(case);
-    io::write_all(STDOUT_FILENO, b": age in slot ");
-    write(slot);
-    io::write_all(STDOUT_FILENO, b" is ");
-    write(age::age(s, x, f));
-    io::write_all(STDOUT_FILENO, b"\n");
+    println!(rt; "case {case}: age in slot {slot} is {}", age::age(s, x, f))
 }
 
 // A word of a list, if it is there.
@@ -86,57 +80,58 @@ fn case_11(list: &mut [u32]) {
 }
 
 // The case's number, the plan's answer, and the slot and base of its first three signals.
-fn fills(case: u32, s: Settings, list: &[u32]) {
+fn fills(rt: &impl Print, case: u32, s: Settings, list: &[u32]) -> io::Result<()> {
     let mut cells = [0u32; 8192];
     let mut results = [0u32; terms::RESULT_WORDS * terms::MOST_SIGNALS];
     let answer = planner::plan(s, list, &mut cells, &mut results);
-    io::write_all(STDOUT_FILENO, b"case ");
-    write(case);
-    io::write_all(STDOUT_FILENO, b": number ");
-    write(terms::number(answer));
-    io::write_all(STDOUT_FILENO, b", place ");
-    write(terms::place(answer));
-    io::write_all(STDOUT_FILENO, b", slots and bases ");
-    write(results[0]);
-    io::write_all(STDOUT_FILENO, b" ");
-    write(results[1]);
-    io::write_all(STDOUT_FILENO, b", ");
-    write(results[terms::RESULT_WORDS]);
-    io::write_all(STDOUT_FILENO, b" ");
-    write(results[terms::RESULT_WORDS + 1]);
-    io::write_all(STDOUT_FILENO, b", ");
-    write(results[2 * terms::RESULT_WORDS]);
-    io::write_all(STDOUT_FILENO, b" ");
-    write(results[2 * terms::RESULT_WORDS + 1]);
-    io::write_all(STDOUT_FILENO, b"\n");
+    let (number, place) = (terms::number(answer), terms::place(answer));
+    print!(rt; "case {case}: number {number}, place {place}, slots and bases ")?;
+    print!(rt; "{} {}, ", results[0], results[1])?;
+    print!(rt;
+        "{} {}, ",
+        results[terms::RESULT_WORDS],
+        results[terms::RESULT_WORDS + 1]
+    )?;
+    println!(rt;
+        "{} {}",
+        results[2 * terms::RESULT_WORDS],
+        results[2 * terms::RESULT_WORDS + 1]
+    )
 }
 
-fn main() {
-    gets(1, settings(93, 0), signal(2500, 0, 2500));
-    shows(1, settings(93, 0), signal(2500, 0, 2500), 93, 1);
-    gets(2, settings(93, 0), signal(2500, 16, 2500));
-    shows(2, settings(93, 0), signal(2500, 16, 2500), 1, 1);
-    gets(3, settings(93, 0), signal(2500, 15, 2500));
-    shows(3, settings(93, 0), signal(2500, 15, 2500), 1, 1);
-    gets(4, settings(93, 1), signal(2500, 0, 2500));
-    shows(4, settings(93, 1), signal(2500, 0, 2500), 1, 1);
-    gets(5, settings(93, 100), signal(10000, 2000, 9488));
-    gets(6, settings(93, 100), signal(10000, 2000, 9487));
-    gets(7, settings(93, 100), signal(50000, 2000, 50000));
-    shows(7, settings(93, 100), signal(50000, 2000, 50000), 93, 16);
-    gets(8, settings(93, 100), signal(50000, 2000, 15000));
-    gets(9, settings(29, 0), signal(2500, 472, 2500));
-    gets(9, settings(30, 0), signal(2500, 472, 2500));
-    shows(9, settings(30, 0), signal(2500, 472, 2500), 30, 1);
+fn main(rt: HostRuntime) -> io::Result<()> {
+    gets(&rt, 1, settings(93, 0), signal(2500, 0, 2500))?;
+    shows(&rt, 1, settings(93, 0), signal(2500, 0, 2500), 93, 1)?;
+    gets(&rt, 2, settings(93, 0), signal(2500, 16, 2500))?;
+    shows(&rt, 2, settings(93, 0), signal(2500, 16, 2500), 1, 1)?;
+    gets(&rt, 3, settings(93, 0), signal(2500, 15, 2500))?;
+    shows(&rt, 3, settings(93, 0), signal(2500, 15, 2500), 1, 1)?;
+    gets(&rt, 4, settings(93, 1), signal(2500, 0, 2500))?;
+    shows(&rt, 4, settings(93, 1), signal(2500, 0, 2500), 1, 1)?;
+    gets(&rt, 5, settings(93, 100), signal(10000, 2000, 9488))?;
+    gets(&rt, 6, settings(93, 100), signal(10000, 2000, 9487))?;
+    gets(&rt, 7, settings(93, 100), signal(50000, 2000, 50000))?;
+    shows(
+        &rt,
+        7,
+        settings(93, 100),
+        signal(50000, 2000, 50000),
+        93,
+        16,
+    )?;
+    gets(&rt, 8, settings(93, 100), signal(50000, 2000, 15000))?;
+    gets(&rt, 9, settings(29, 0), signal(2500, 472, 2500))?;
+    gets(&rt, 9, settings(30, 0), signal(2500, 472, 2500))?;
+    shows(&rt, 9, settings(30, 0), signal(2500, 472, 2500), 30, 1)?;
     let three = [
         1u32, 10000, 2000, 16, 10000, 1, 5000, 2000, 16, 5000, 1, 10000, 2000, 16, 10000,
     ];
-    fills(10, settings(93, 100), &three);
+    fills(&rt, 10, settings(93, 100), &three)?;
     let mut four_units = [0u32; 400];
     case_11(&mut four_units);
-    fills(11, settings(93, 0), &four_units);
-    fills(11, settings(32, 0), &four_units);
-    fills(11, settings(31, 0), &four_units);
+    fills(&rt, 11, settings(93, 0), &four_units)?;
+    fills(&rt, 11, settings(32, 0), &four_units)?;
+    fills(&rt, 11, settings(31, 0), &four_units)?;
     let none = [0u32; 0];
-    fills(12, settings(93, 0), &none);
+    fills(&rt, 12, settings(93, 0), &none)
 }

@@ -16,8 +16,7 @@ ghost use Rattle.editor.specs.Private.{BytesPlanned};
 use terms::{Answer, Frame, Settings, Signal};
 
 // The age of one signal in one frame, or 0 where a setting, the signal or the frame is out of range.
-#[unsafe(no_mangle)]
-pub extern "C" fn noctelvia_age(
+pub fn noctelvia_age(
     cycle: u32,
     ticks: u32,
     slots: u32,
@@ -58,8 +57,7 @@ pub extern "C" fn noctelvia_age(
 }
 
 // The repetition of one signal, or 0 where a setting or the signal is out of range or none keeps the bound.
-#[unsafe(no_mangle)]
-pub extern "C" fn noctelvia_repetition(
+pub fn noctelvia_repetition(
     cycle: u32,
     ticks: u32,
     slots: u32,
@@ -91,8 +89,7 @@ pub extern "C" fn noctelvia_repetition(
 }
 
 // Reading a book into a lent list: number times 4,294,967,296 plus place.
-#[unsafe(no_mangle)]
-pub extern "C" fn noctelvia_read(book: &[u8], list: &mut [u32]) -> u64
+pub fn noctelvia_read(book: &[u8], list: &mut [u32]) -> u64
     ensures { ReadAnswered book.now list.old result list.new }
 {
     let reading = book::read(book, list);
@@ -101,16 +98,14 @@ pub extern "C" fn noctelvia_read(book: &[u8], list: &mut [u32]) -> u64
 }
 
 // Setting word 2 to 6 of a sound book; 0 for any other book or word.
-#[unsafe(no_mangle)]
-pub extern "C" fn noctelvia_setting(book: &[u8], word: u32) -> u32
+pub fn noctelvia_setting(book: &[u8], word: u32) -> u32
     ensures { SettingAnswered book.now word result }
 {
     terms::setting_word(book::settings_of(book), word)
 }
 
 // Writing the book of settings and a list into lent room.
-#[unsafe(no_mangle)]
-pub extern "C" fn noctelvia_write(
+pub fn noctelvia_write(
     cycle: u32,
     ticks: u32,
     slots: u32,
@@ -133,16 +128,14 @@ pub extern "C" fn noctelvia_write(
 }
 
 // The byte at which the twenty bytes of a signal start in a sound book that has it, or 0.
-#[unsafe(no_mangle)]
-pub extern "C" fn noctelvia_part(book: &[u8], signal: u32) -> u64
+pub fn noctelvia_part(book: &[u8], signal: u32) -> u64
     ensures { Given (HasSignal book.now signal) (λ at. at ≡ part_start signal) result }
 {
     book::part_at(book, signal) as u64
 }
 
 // Planning over lent words, 64 cells a slot and a result a signal.
-#[unsafe(no_mangle)]
-pub extern "C" fn noctelvia_plan_list(
+pub fn noctelvia_plan_list(
     cycle: u32,
     ticks: u32,
     slots: u32,
@@ -167,8 +160,7 @@ pub extern "C" fn noctelvia_plan_list(
 }
 
 // Planning a book: the little-endian words of a result a signal into the lent bytes.
-#[unsafe(no_mangle)]
-pub extern "C" fn noctelvia_plan(book: &[u8], results: &mut [u8]) -> u64
+pub fn noctelvia_plan(book: &[u8], results: &mut [u8]) -> u64
     ensures { BookAnswered book.now results.old result results.new }
 {
     let mut list = [0u32; terms::SIGNAL_WORDS * terms::MOST_SIGNALS];

@@ -1,9 +1,13 @@
 // The planning program: a book on standard input, the plan or the refusal as lines on standard output.
 // Thin: reading, planning and what they promise are in the libraries; beside a refusal a sentence goes to standard error.
 #![tactic(auto)]
+
 mod words;
 
-use libc::{STDERR_FILENO, STDIN_FILENO, STDOUT_FILENO};
+use std::env::FillError;
+use std::io;
+use std::io::Read;
+use std::rt::Env;
 use terms::Answer;
 use words::{because, help};
 
@@ -27,56 +31,50 @@ fn first(list: &[u32], count: usize) -> &[u32] {
     &list[..count]
 }
 
-fn number(n: u32) {
-    io::print_decimal(STDOUT_FILENO, n as u64);
-}
-
-fn spaced(n: u32) {
-    io::write_all(STDOUT_FILENO, b" ");
-    number(n);
-}
-
 // `REFUSED`, number, place; and why, in words.
-fn refuse(answer: Answer) {
-    io::write_all(STDOUT_FILENO, b"REFUSED");
-    spaced(terms::number(answer));
-    spaced(terms::place(answer));
-    io::write_all(STDOUT_FILENO, b"\n");
-    because(STDERR_FILENO, answer);
+fn refuse(rt: &(impl Print + Eprint), answer: Answer) -> io::Result<()> {
+    println!(rt;
+        "REFUSED {} {}",
+        terms::number(answer),
+        terms::place(answer)
+    )?;
+    because(rt, answer)
 }
 
 // One signal: number, unit; and of its result slot, base, repetition, age.
-fn line(list: &[u32], results: &[u32], signal: u32) {
-    number(signal);
-    spaced(terms::signal_at(list, signal).unit);
-    spaced(result_word(results, signal, 0));
-    spaced(result_word(results, signal, 1));
-    spaced(result_word(results, signal, 2));
-    spaced(result_word(results, signal, 3));
-    io::write_all(STDOUT_FILENO, b"\n");
+fn line(rt: &impl Print, list: &[u32], results: &[u32], signal: u32) -> io::Result<()> {
+    let unit = terms::signal_at(list, signal).unit;
+    let slot = result_word(results, signal, 0);
+    let base = result_word(results, signal, 1);
+    let repetition = result_word(results, signal, 2);
+    let age = result_word(results, signal, 3);
+    println!(rt; "{signal} {unit} {slot} {base} {repetition} {age}")
 }
 
 // `PLAN`, signals, slots used, slots in the segment; then each signal in list order.
-fn show(list: &[u32], results: &[u32], signals: u32, used: u32, slots: u32) {
-    io::write_all(STDOUT_FILENO, b"PLAN");
-    spaced(signals);
-    spaced(used);
-    spaced(slots);
-    io::write_all(STDOUT_FILENO, b"\n");
+fn show(
+    rt: &impl Print,
+    list: &[u32],
+    results: &[u32],
+    signals: u32,
+    used: u32,
+    slots: u32,
+) -> io::Result<()> {
+    println!(rt; "PLAN {signals} {used} {slots}")?;
     let mut signal = 0;
     while signal < signals {
         signal += 1;
-        line(list, results, signal);
+        line(rt, list, results, signal)?;
     }
+    Ok(())
 }
 
-fn plan(book: &[u8]) {
+fn plan(rt: &(impl Print + Eprint), book: &[u8]) -> io::Result<()> {
     let mut list = [0u32; terms::SIGNAL_WORDS * terms::MOST_SIGNALS];
     let reading = book::read(book, &mut list);
     let read = reading.answer;
     if terms::number(read) != 0 {
-        refuse(read);
-        return;
+        return refuse(rt, read);
     }
     let signals = terms::place(read);
     let s = reading.settings;
@@ -89,19 +87,22 @@ fn plan(book: &[u8]) {
         &mut results,
     );
     if terms::number(answer) != 0 {
-        refuse(answer);
-        return;
+        return refuse(rt, answer);
     }
-    show(&list, &results, signals, terms::place(answer), s.slots);
+    show(rt, &list, &results, signals, terms::place(answer), s.slots)
 }
 
-fn main() {
-    if 1 < os::arg_count() {
-        help(STDOUT_FILENO);
-        return;
+// Whether the program was given an argument, whatever its bytes.
+fn has_argument(rt: &impl Env) -> bool {
+    !matches!(rt.arg(1, &mut []), Err(FillError::NotPresent))
+}
+
+fn main(rt: HostRuntime) -> io::Result<()> {
+    if has_argument(&rt) {
+        return help(&rt);
     }
     // One byte more than the longest book, so that a longer one is seen to be too long.
-    let mut book = [0u8; 13313];
-    let got = io::read_full(STDIN_FILENO, &mut book);
-    plan(&book[..got]);
+    let mut book = Vec::new(rt.alloc());
+    rt.reader().take(13313).read_to_end(&mut book)?;
+    plan(&rt, &book)
 }

@@ -1,37 +1,33 @@
 // The picture of a plan: a book on standard input, the planned table as SVG on standard output, or the refusal.
 // Thin: reading, planning and what they promise are in the libraries; here the cells they give are drawn.
 #![tactic(auto)]
+
 mod legend;
 mod sheet;
 mod table;
 mod text;
 mod units;
 
-use libc::{STDERR_FILENO, STDIN_FILENO, STDOUT_FILENO};
+use std::env::FillError;
+use std::io;
+use std::io::Read;
+use std::rt::Env;
 use terms::{Answer, Settings};
-use text::text;
 
-fn help(out: i32) {
-    io::write_all(
-        out,
-        b"picture: draws the plan of the static segment of one FlexRay channel.\n",
-    );
-    io::write_all(
-        out,
-        b"In, on standard input: a book of blocks of 512 bytes, the settings block and then the signal blocks.\n",
-    );
-    io::write_all(
-        out,
-        b"Out, on standard output: an SVG, slots across and cycles down, each frame in the colour of its unit. A frame's\n",
-    );
-    io::write_all(
-        out,
-        b"title has its signal, unit, slot, base, repetition, age and bound; a browser shows it under the pointer.\n",
-    );
-    io::write_all(
-        out,
-        b"A refusal is a small SVG that says REFUSED, number, place; the line also goes to standard error.\n",
-    );
+fn help(rt: &impl Print) -> io::Result<()> {
+    println!(rt; "picture: draws the plan of the static segment of one FlexRay channel.")?;
+    println!(rt;
+        "In, on standard input: a book of blocks of 512 bytes, the settings block and then the signal blocks."
+    )?;
+    println!(rt;
+        "Out, on standard output: an SVG, slots across and cycles down, each frame in the colour of its unit. A frame's"
+    )?;
+    println!(rt;
+        "title has its signal, unit, slot, base, repetition, age and bound; a browser shows it under the pointer."
+    )?;
+    println!(rt;
+        "A refusal is a small SVG that says REFUSED, number, place; the line also goes to standard error."
+    )
 }
 
 // The first words of a list, or all of it where it is shorter.
@@ -42,41 +38,40 @@ fn first(list: &[u32], count: usize) -> &[u32] {
     &list[..count]
 }
 
-// `REFUSED`, number, place.
-fn refused(out: i32, answer: Answer) {
-    io::write_all(out, b"REFUSED ");
-    io::print_decimal(out, terms::number(answer) as u64);
-    io::write_all(out, b" ");
-    io::print_decimal(out, terms::place(answer) as u64);
+// `REFUSED`, number, place: as a picture, and on standard error.
+fn refuse(rt: &(impl Print + Eprint), answer: Answer) -> io::Result<()> {
+    let (number, place) = (terms::number(answer), terms::place(answer));
+    sheet::open(rt, 480, 80)?;
+    print!(rt; "<text x=\"24\" y=\"48\" font-size=\"24\" font-weight=\"bold\">")?;
+    print!(rt; "REFUSED {number} {place}</text>\n</svg>\n")?;
+    eprintln!(rt; "REFUSED {number} {place}")
 }
 
-fn refuse(answer: Answer) {
-    sheet::open(480, 80);
-    text(b"<text x=\"24\" y=\"48\" font-size=\"24\" font-weight=\"bold\">");
-    refused(STDOUT_FILENO, answer);
-    text(b"</text>\n</svg>\n");
-    refused(STDERR_FILENO, answer);
-    io::write_all(STDERR_FILENO, b"\n");
-}
-
-fn draw(s: Settings, list: &[u32], cells: &[u32], results: &[u32], signals: u32, used: u32) {
+fn draw(
+    rt: &impl Print,
+    s: Settings,
+    list: &[u32],
+    cells: &[u32],
+    results: &[u32],
+    signals: u32,
+    used: u32,
+) -> io::Result<()> {
     let mut ranks = [0u32; 256];
     let units = units::rank(list, results, signals, &mut ranks);
-    sheet::open(sheet::width(s.slots), sheet::height(s.slots, units));
-    sheet::head(s, signals, used);
-    table::grid(s.slots);
-    table::frames(list, cells, results, signals, &ranks);
-    legend::legend(list, results, signals, s.slots, &ranks);
-    text(b"</svg>\n");
+    sheet::open(rt, sheet::width(s.slots), sheet::height(s.slots, units))?;
+    sheet::head(rt, s, signals, used)?;
+    table::grid(rt, s.slots)?;
+    table::frames(rt, list, cells, results, signals, &ranks)?;
+    legend::legend(rt, list, results, signals, s.slots, &ranks)?;
+    println!(rt; "</svg>")
 }
 
-fn plan(book: &[u8]) {
+fn plan(rt: &(impl Print + Eprint), book: &[u8]) -> io::Result<()> {
     let mut list = [0u32; terms::SIGNAL_WORDS * terms::MOST_SIGNALS];
     let reading = book::read(book, &mut list);
     let read = reading.answer;
     if terms::number(read) != 0 {
-        refuse(read);
-        return;
+        return refuse(rt, read);
     }
     let signals = terms::place(read);
     let s = reading.settings;
@@ -89,19 +84,30 @@ fn plan(book: &[u8]) {
         &mut results,
     );
     if terms::number(answer) != 0 {
-        refuse(answer);
-        return;
+        return refuse(rt, answer);
     }
-    draw(s, &list, &cells, &results, signals, terms::place(answer));
+    draw(
+        rt,
+        s,
+        &list,
+        &cells,
+        &results,
+        signals,
+        terms::place(answer),
+    )
 }
 
-fn main() {
-    if 1 < os::arg_count() {
-        help(STDOUT_FILENO);
-        return;
+// Whether the program was given an argument, whatever its bytes.
+fn has_argument(rt: &impl Env) -> bool {
+    !matches!(rt.arg(1, &mut []), Err(FillError::NotPresent))
+}
+
+fn main(rt: HostRuntime) -> io::Result<()> {
+    if has_argument(&rt) {
+        return help(&rt);
     }
     // One byte more than the longest book, so that a longer one is seen to be too long.
-    let mut book = [0u8; 13313];
-    let got = io::read_full(STDIN_FILENO, &mut book);
-    plan(&book[..got]);
+    let mut book = Vec::new(rt.alloc());
+    rt.reader().take(13313).read_to_end(&mut book)?;
+    plan(&rt, &book)
 }

@@ -3,7 +3,8 @@
 // edge, and 11 by 7 of colour.
 ghost use Rattle.std.specs.Prelude.{◌<◌};
 
-use crate::text::{counted, number, text};
+use crate::text::counted;
+use std::io;
 use terms::Settings;
 
 // Where the colour of a slot begins, counted from 1: behind its grid line.
@@ -55,32 +56,28 @@ pub fn height(slots: u32, units: u32) -> u64 {
 }
 
 // The head of the file: a white sheet.
-pub fn open(width: u64, height: u64) {
-    number(b"<svg xmlns=\"http://www.w3.org/2000/svg\" width=\"", width);
-    number(b"\" height=\"", height);
-    number(b"\" viewBox=\"0 0 ", width);
-    number(b" ", height);
-    text(b"\" font-family=\"sans-serif\" fill=\"#222222\">\n");
-    text(b"<rect width=\"100%\" height=\"100%\" fill=\"#ffffff\"/>\n");
+pub fn open(rt: &impl Print, width: u64, height: u64) -> io::Result<()> {
+    print!(rt; "<svg xmlns=\"http://www.w3.org/2000/svg\" width=\"{width}\" height=\"{height}\"")?;
+    print!(rt; " viewBox=\"0 0 {width} {height}\"")?;
+    println!(rt; " font-family=\"sans-serif\" fill=\"#222222\">")?;
+    println!(rt; "<rect width=\"100%\" height=\"100%\" fill=\"#ffffff\"/>")
 }
 
-fn title(s: Settings, signals: u32, used: u32) {
-    counted(signals, b" signal");
-    number(b", ", used as u64);
-    number(b" of ", s.slots as u64);
-    text(b" slots used");
+fn title(rt: &impl Print, s: Settings, signals: u32, used: u32) -> io::Result<()> {
+    counted(rt, signals, " signal")?;
+    print!(rt; ", {used} of {} slots used", s.slots)
 }
 
 // The title, also for the browser's tab, and the settings.
-pub fn head(s: Settings, signals: u32, used: u32) {
-    text(b"<title>");
-    title(s, signals, used);
-    text(b"</title>\n<text x=\"64\" y=\"30\" font-size=\"20\" font-weight=\"bold\">");
-    title(s, signals, used);
-    text(b"</text>\n<text x=\"64\" y=\"50\" font-size=\"11\">");
-    number(b"cycle length ", s.cycle as u64);
-    number(b", slot length ", s.slot as u64);
-    number(b", packing time ", s.packing as u64);
-    number(b" macroticks; payload ", s.payload as u64);
-    text(b" words</text>\n");
+pub fn head(rt: &impl Print, s: Settings, signals: u32, used: u32) -> io::Result<()> {
+    print!(rt; "<title>")?;
+    title(rt, s, signals, used)?;
+    print!(rt; "</title>\n<text x=\"64\" y=\"30\" font-size=\"20\" font-weight=\"bold\">")?;
+    title(rt, s, signals, used)?;
+    print!(rt; "</text>\n<text x=\"64\" y=\"50\" font-size=\"11\">")?;
+    print!(rt; "cycle length {}, slot length {}", s.cycle, s.slot)?;
+    println!(rt;
+        ", packing time {} macroticks; payload {} words</text>",
+        s.packing, s.payload
+    )
 }

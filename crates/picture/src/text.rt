@@ -1,30 +1,18 @@
-// The pieces of which the picture's text is made, on standard output; and the words of a lent list.
-use libc::STDOUT_FILENO;
-
-pub fn text(bytes: &[u8]) {
-    io::write_all(STDOUT_FILENO, bytes);
-}
-
-// A number with what stands before it.
-pub fn number(before: &[u8], n: u64) {
-    io::write_all(STDOUT_FILENO, before);
-    io::print_decimal(STDOUT_FILENO, n);
-}
+// Pieces of which the picture's text is made; and the words of a lent list.
+use std::io;
 
 // How many there are, and of what: no `s` behind the name of one.
-pub fn counted(n: u32, name: &[u8]) {
-    number(b"", n as u64);
-    text(name);
+pub fn counted(rt: &impl Print, n: u32, name: &str) -> io::Result<()> {
+    print!(rt; "{n}{name}")?;
     if n != 1 {
-        text(b"s");
+        print!(rt; "s")?;
     }
+    Ok(())
 }
 
 // A colour as red, green and blue, two digits each.
-pub fn colour(rgb: u32) {
-    text(b" fill=\"#");
-    io::print_hex(STDOUT_FILENO, rgb as u64, 6);
-    text(b"\"");
+pub fn colour(rt: &impl Print, rgb: u32) -> io::Result<()> {
+    print!(rt; " fill=\"#{rgb:06x}\"")
 }
 
 // A word of a list, or 0 past its end.

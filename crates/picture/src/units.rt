@@ -23,7 +23,7 @@ pub fn rank_of(ranks: &[u32; 256], unit: u32) -> u32 {
 }
 
 // A unit's signals, and the first and last slot that hold them. The slots say nothing where there is no signal.
-#[derive(Drop)]
+#[derive(Clone, Copy)]
 pub struct Share {
     pub signals: u32,
     pub first: u32,

@@ -14,6 +14,11 @@ overflow_cast-result c =
     let sound = judged_sound c.args.book.now c.judge-answer.result c.judge-answer.ensures (omega arith) in
     omega (arith, sound.1, (sound_count c.args.book.now sound.0).0, c.place.ensures)
 
+pub copy_list-requires : goal.copy_list-requires
+copy_list-requires c =
+    let sound = judged_sound c.args.book.now c.judge-answer.result c.judge-answer.ensures (omega arith) in
+    omega (arith, sound.1, sound_count c.args.book.now sound.0, c.place.ensures)
+
 pub returns : goal.returns
 unfolding list_in
 returns c =

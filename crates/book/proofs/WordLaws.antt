@@ -20,9 +20,9 @@ all_below n l some each i =
     dite (dec_lt i (length l)) (each i) (λ past. rw (get_or-eq_default l 0 {n = i} (omega arith)) some)
 
 -- byte i of word p
-byte_at_lem : (f : ℕ → ℕ) (p i : ℕ) → i < 4 → byte_of (f p) i ≡ byte_in f (4 * p + i)
+byte_in_word : (f : ℕ → ℕ) (p i : ℕ) → i < 4 → byte_of (f p) i ≡ byte_in f (4 * p + i)
 unfolding byte_in
-byte_at_lem f p i h =
+byte_in_word f p i h =
     let word : p ≡ (4 * p + i) / 4 = omega arith in
     let place : i ≡ (4 * p + i) % 4 = omega arith in
     λ k. byte_of (f (word k)) (place k)
@@ -43,7 +43,7 @@ put_more f {lent} p x put fits value e =
   where
     byte : {room : List ℕ} (i : ℕ) → i < 4 → Over (byte_in f) lent room (4 * p + i)
         → Over (byte_in f) lent (set room (4 * p + i) (byte_of x i)) (4 * p + (i + 1))
-    byte i h o = over_one (4 * p + i) _ _ o (omega arith) (rw value (byte_at_lem f p i h)) (omega arith)
+    byte i h o = over_one (4 * p + i) _ _ o (omega arith) (rw value (byte_in_word f p i h)) (omega arith)
 
 pub put_all : (f : ℕ → ℕ) (lent room : List ℕ) (p n : ℕ) → Put f lent room p → p ≡ n → room ≡ bytes_over f n lent
 unfolding bytes_of
@@ -90,7 +90,7 @@ pub word_of_bytes : (f : ℕ → ℕ) (n p : ℕ) → p < n → f p < 2 ^ 32 →
 unfolding word_at bytes_of
 word_of_bytes f n p h fits =
     word_same (byte_at (bytes_of f n) p) (byte_of (f p))
-    (λ i l. up_to_at (byte_in f) (4 * n) (4 * p + i) (omega arith) ∙ sym (byte_at_lem f p i l))
+    (λ i l. up_to_at (byte_in f) (4 * n) (4 * p + i) (omega arith) ∙ sym (byte_in_word f p i l))
     ∙ four_bytes (f p) fits
 
 -- byte j of bytes is that of the word that is read around it

@@ -24,6 +24,7 @@ pub enum Step {
 }
 
 // The slot that a frame goes to: the current one while that has a free cycle, else the next.
+#[tactic(auto, using(crate::proofs::StepLaws::goes_kept))]
 fn goes_to(current: Current) -> Current
     requires { current.begun < 2 ^ 32 - 1 }
     ensures { GoneTo current result }

@@ -12,6 +12,7 @@ use Rattle.laws.specs.Loops.{LowestOrNone}
 use Rattle.laws.proofs.RowLaws.{Numbered, zero_holds, pass, refused_front}
 use Rattle.laws.proofs.LowestLaws.{Reached, reached_next, reached_all, none_without, stops, none_each, some_lowest, lowest_not_each}
 use Rattle.terms.specs.declared.Settings.{Settings}
+use Rattle.terms.specs.declared.Signal.{Signal}
 use Rattle.terms.specs.declared.Answer.{Answer}
 use Rattle.terms.specs.declared.Answer.TheVariants.{Done, Field, Bound}
 use Rattle.terms.specs.Answers.{number_of, Answers}
@@ -19,10 +20,10 @@ use Rattle.terms.specs.Requests.{Request}
 use Rattle.terms.specs.Ranges.{SignalInRange}
 use Rattle.terms.specs.Lists.{count, signal_at, EachSignal}
 use Rattle.terms.proofs.RepetitionLaws.{repetition_positive}
-use Rattle.rule.specs.Rule.{Keeps, segment, Largest, Kept}
+use Rattle.rule.specs.Rule.{Keeps, segment, Largest, Kept, RepetitionGiven}
 use Rattle.filling.specs.Outcomes.{repetition_in}
 use Rattle.planner.specs.Rows.{lent_rows, field_row, bound_row}
-use Rattle.planner.specs.Judged.{RepetitionsFound, Judged}
+use Rattle.planner.specs.Judged.{Judgeable, RepetitionsFound, Judged}
 
 -- signal j has its repetition among the words
 pub record FoundIn (s : Settings) (list words : List ℕ) (j : ℕ) : Type 0 where
@@ -72,6 +73,18 @@ module _ {s : Settings} {list words : List ℕ} {i : ℕ} (f : Reached (count li
             (λ k. omega (arith, l.largest k.0 k.1 k.2, repetition_positive k.0 k.1));
         all = λ e. absurd (omega (arith, f.first));
       }
+
+  module _ {m : ℕ} {begun : List ℕ} (right : Judgeable s list m begun) (l : i ≤ m) {r : ℕ} where
+    -- the repetition given of a signal of the list is the largest that keeps its bound
+    pub largest_given : RepetitionGiven s (signal_at list i) r → Largest (Keeps s (signal_at list i) (segment s)) r
+    largest_given given =
+        let own = right.signals i (f.first, omega (arith, right.count.counted)) in
+        given.inside (record { settings = right.settings; signal = own })
+
+    -- where it is 0, the search has found the signal that gets none
+    pub found_none : {x : Signal} → x ≡ signal_at list i → RepetitionGiven s x r → r ≡ 0 → RepetitionsFound s list i words
+    found_none e given z =
+        found_not (omega (arith, right.count.counted)) (rw z at (largest_given (rw e at given)))
 
 -- ---- the rows that the judge asks
 

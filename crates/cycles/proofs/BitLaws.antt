@@ -1,8 +1,10 @@
--- The laws of one bit, each over the position: of `&`, `!`, `<<` and a count of trailing zeros; and words are equal by their bits.
+-- The laws of one bit, each over the position: of `&`, `!`, `<<` and a count of trailing zeros; and words are equal by
+-- their bits.
 -- Assumes nothing.
 use mathlib.Core.Path.{◌≡◌, refl, sym, ap, ap₂, ◌∙◌}
 use Prim.Native.Nat.{ℕ, zero, suc, ◌+◌, ◌-◌, ◌*◌, ◌/◌, ◌%◌, ◌^◌, ◌<◌, min, suc-le-suc}
-use native.Mathlib.Nat.{div-one, div-div-eq-div-mul, pow-succ', mod-lt, zero-lt-suc, zero-div, le_of_suc-le-suc, not-suc-le-zero, lt_of_le_of_lt, min-le_left, add-zero, add-suc}
+use native.Mathlib.Nat.{div-one, div-div-eq-div-mul, pow-succ', mod-lt, zero-lt-suc, zero-div, le_of_suc-le-suc}
+use native.Mathlib.Nat.{not-suc-le-zero, lt_of_le_of_lt, min-le_left, add-zero, add-suc}
 use native.Mathlib.Omega.{arith}
 use lib.Arith.{digits_mod, lt-one}
 use lib.Pow.{field, mod-mod-pow}
@@ -72,7 +74,7 @@ equal_by_bits (suc k) a b ha hb h =
     (λ c l. rw (bit_next a c, bit_next b c) at (h (suc c) (suc-le-suc l))) in
     omega (arith, higher, rw (bit_first a, bit_first b) at (h 0 (omega arith)))
 
--- ---- the trailing zeros of the k lowest bits: every bit before their count is 0, and the one at it is 1, if it is one of the k
+-- ---- the trailing zeros of the k lowest bits: each bit before their count is 0, and the one at it, one of the k, is 1
 
 first_zeros : (n r t c : ℕ) → n % 2 ≡ r → ((d : ℕ) → d < t → bit (n / 2) d ≡ 0) → c < under r t → bit n c ≡ 0
 first_zeros n zero t zero e zeros l = bit_first n ∙ e

@@ -1,5 +1,5 @@
--- The seven patterns, and one test that antt computes at each of their 448 bits. What it gives is in PatternLaws: an edit of
--- the list then fails here alone.
+-- The seven patterns, and one test that antt computes at each of their 448 bits. What it gives is in PatternLaws: an
+-- edit of the list then fails here alone.
 -- Assumes nothing.
 use mathlib.Core.Bool.{Bool, cond}
 use mathlib.Core.List.{List, [], ◌∷◌}

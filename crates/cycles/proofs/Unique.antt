@@ -19,7 +19,8 @@ use Rattle.cycles.specs.Slots.{Free, Fresh, FirstFree, AllFree, FrameTaken}
 pub pattern_unique : (R a b : ℕ) → a < 2 ^ 64 → b < 2 ^ 64 → Mask a (Multiple R) → Mask b (Multiple R) → a ≡ b
 pattern_unique R = mask_unique (Multiple R)
 
-pub cycles_of_unique : (R base a b : ℕ) → a < 2 ^ 64 → b < 2 ^ 64 → Mask a (Names R base) → Mask b (Names R base) → a ≡ b
+pub cycles_of_unique : (R base a b : ℕ) → a < 2 ^ 64 → b < 2 ^ 64 → Mask a (Names R base) → Mask b (Names R base)
+    → a ≡ b
 cycles_of_unique R base = mask_unique (Names R base)
 
 tallied_unique : {load R a b : ℕ} → Tallied load R a → Tallied load R b → a ≡ b
@@ -53,7 +54,8 @@ not_before {a = a} p q h = q.before a h (p.found (omega (arith, q.within)))
 pub first_free_unique : (s : Slot) (a b : ℕ) → FirstFree s a → FirstFree s b → a ≡ b
 first_free_unique s a b p q = omega (arith, not_before p q, not_before q p)
 
-pub all_free_unique : (s : Slot) (R base : ℕ) (a b : Bool) → Says (AllFree s R base) a → Says (AllFree s R base) b → a ≡ b
+pub all_free_unique : (s : Slot) (R base : ℕ) (a b : Bool) → Says (AllFree s R base) a → Says (AllFree s R base) b
+    → a ≡ b
 all_free_unique s R base = says_unique (AllFree s R base)
 
 module _ (s : Slot) (R base : ℕ) (a b : Slot) (ha : a.free < 2 ^ 64) (hb : b.free < 2 ^ 64) where

@@ -219,9 +219,9 @@ module _ (s : Settings) (list words cells₀ results₀ : List ℕ) where
 -- before each frame of the order that the code goes through, what is known of it
 pub at_next : {s : Settings} {list words begun₀ cells₀ results₀ cells results begun free : List ℕ} {i : ℕ}
     (m : ℕ) (array : List UnitFrame) (d : UnitFrame) → Runnable s list words begun₀ cells₀ results₀
-    → Filling s list words cells₀ results₀ cells results begun free i → m ≡ count list → OrderedAll words m array → i < m
-    → AtFrame s list words cells₀ results₀ cells results begun free i (get_or array i d)
-at_next {s} {list} {words} {begun₀} {cells₀} {results₀} {cells} {results} {begun} {free} {i} m array d runs g e right h =
+    → Filling s list words cells₀ results₀ cells results begun free i → m ≡ count list → OrderedAll words m array
+    → i < m → AtFrame s list words cells₀ results₀ cells results begun free i (get_or array i d)
+at_next {list = list} {words = words} {i = i} m array d runs g e right h =
     let before : i < count list = omega arith in
-    at_frame s list words cells₀ results₀ begun₀ runs cells results begun free i g before (get_or array i d)
+    at_frame _ _ _ _ _ _ runs _ _ _ _ i g before (get_or array i d)
     (next_frame list (repetition_in words) array i d (rw e at right) before)

@@ -57,7 +57,8 @@ module _ (group R : ℕ → ℕ) (m : ℕ) where
   pub slots_next : (g : ℕ) {needed r : ℕ} → needed ≡ slots_before group R m g → r ≡ slots_for (group_load group R m g)
       → (needed + r ≡ slots_before group R m (g + 1)) × (needed + r ≤ m)
   slots_next g n e =
-      let next = sum_more (λ k. slots_for (group_load group R m k)) g in (omega arith, omega (arith, needed_most (g + 1)))
+      let next = sum_more (λ k. slots_for (group_load group R m k)) g in
+      (omega arith, omega (arith, needed_most (g + 1)))
 
 -- ---- fewer signals with larger repetitions
 

@@ -1,5 +1,5 @@
--- The places that filling gives: one for each frame, in the slots of its group; two in one group have no cell in common;
--- every cell before a place is in use by a frame before; no slot is left out.
+-- The places that filling gives: one for each frame, in the slots of its group; two in one group have no cell in
+-- common; every cell before a place is in use by a frame before; no slot is left out.
 -- Assumes nothing.
 use mathlib.Core.Path.{◌≡◌, refl, sym, ap}
 use mathlib.Core.Logic.{◌⊎◌, inl, inr, ⊎_elim, dite}
@@ -84,8 +84,8 @@ module _ (group : ℕ → ℕ) where
 
     -- ---- in the slots of its group
 
-    pub places_in : (fs : List UnitFrame) (states : ℕ → State) → WithoutTrouble states fs → {p : Placed} → Among states fs p
-        → InSlots (first (group_at p)) (load (group_at p)) p.frame
+    pub places_in : (fs : List UnitFrame) (states : ℕ → State) → WithoutTrouble states fs → {p : Placed}
+        → Among states fs p → InSlots (first (group_at p)) (load (group_at p)) p.frame
     unfolding fill_from
     places_in [] states u m = absurd (Memᴰ.not-nil m)
     places_in (f ∷ fs) states (h, u) (Memᴰ.head e) = rw e h.inside

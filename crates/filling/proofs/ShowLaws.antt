@@ -1,5 +1,5 @@
--- Laws of showing: cells cleared, the cells of a frame painted one repetition after the other, and how cells and results
--- that show some frames come to show one more.
+-- Laws of showing: cells cleared, the cells of a frame painted one repetition after the other, and how cells and
+-- results that show some frames come to show one more.
 -- Assumes nothing.
 use mathlib.Core.Path.{◌≡◌, refl, sym, ap, subst, ◌∙◌}
 use mathlib.Core.List.Memᴰ

@@ -1,5 +1,5 @@
--- The laws of the step that places a frame: what the routines of the slot's record promise is what filling does with the
--- state that the record holds.
+-- The laws of the step that places a frame: what the routines of the slot's record promise is what filling does with
+-- the state that the record holds.
 -- Assumes nothing.
 use mathlib.Core.Path.{◌≡◌, refl, sym, ap, ◌∙◌}
 use mathlib.Core.Logic.{◌⊎◌, inl, inr, dite}

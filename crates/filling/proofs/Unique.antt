@@ -33,7 +33,8 @@ use Rattle.filling.proofs.FilledLaws.{filled_some}
 
 -- ---- of the repetitions of the signals alone
 
-frames_same : (R Q : ℕ → ℕ) (n i : ℕ) → ((j : ℕ) → i ≤ j → j < i + n → R j ≡ Q j) → frames_from R n i ≡ frames_from Q n i
+frames_same : (R Q : ℕ → ℕ) (n i : ℕ) → ((j : ℕ) → i ≤ j → j < i + n → R j ≡ Q j)
+    → frames_from R n i ≡ frames_from Q n i
 unfolding frames_from
 frames_same R Q zero i h = refl
 frames_same R Q (suc n) i h =
@@ -43,7 +44,8 @@ frames_same R Q (suc n) i h =
 pub filled_same : (list : List ℕ) (R Q : ℕ → ℕ) → EachTo (count list) (λ i. R i ≡ Q i) → filled list R ≡ filled list Q
 filled_same list R Q h =
     let frames = frames_same R Q (count list) 1 (λ j l k. h j (l, omega arith)) in
-    λ t. fill_from (group_of list) (λ g. start (needed_same (group_of list) R Q (count list) h g t)) (ordered (frames t))
+    λ t. fill_from (group_of list) (λ g. start (needed_same (group_of list) R Q (count list) h g t))
+    (ordered (frames t))
 
 -- ---- one list at exit
 

@@ -1,5 +1,5 @@
--- `cycles::cycles_of` meets its contract: a pattern shifted to the base; no cycle is named where the number is no repetition
--- or the base is not below it.
+-- `cycles::cycles_of` meets its contract: a pattern shifted to the base; no cycle is named where the number is no
+-- repetition or the base is not below it.
 -- Assumes nothing.
 use Rattle.std.proofs.Common.{arith}
 use Rattle.cycles.proofs.MaskLaws.{mask_none}

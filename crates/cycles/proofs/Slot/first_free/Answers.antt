@@ -1,4 +1,5 @@
--- `cycles::Slot::first_free` meets its contract: the trailing zeros are the cycles that are taken before the first free one.
+-- `cycles::Slot::first_free` meets its contract: the trailing zeros are the cycles that are taken before the first
+-- free one.
 -- Assumes nothing.
 use Rattle.std.proofs.Common.{arith}
 use lib.Count.{trailing_le}

@@ -1,4 +1,5 @@
--- What the loop of `filling::groups::slots_before` keeps: the groups before it begin where they are to. Assumes nothing.
+-- What the loop of `filling::groups::slots_before` keeps: the groups before it begin where they are to.
+-- Assumes nothing.
 use Rattle.std.proofs.Common.{List, ℕ, ◌≡◌, ◌-◌, ◌≤◌}
 use Rattle.terms.specs.Lists.{count, group_of, groups}
 use Rattle.filling.specs.Outcomes.{repetition_in}

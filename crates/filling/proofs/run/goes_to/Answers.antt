@@ -1,4 +1,5 @@
--- `filling::run::goes_to` meets its contract: the slot stays while the record shows a free cycle, else the next is begun.
+-- `filling::run::goes_to` meets its contract: the slot stays while the record shows a free cycle, else the next is
+-- begun.
 -- Assumes nothing.
 use Rattle.std.proofs.Common.{arith, refl}
 use Rattle.filling.proofs.StepLaws.{goes_begun}

@@ -1,5 +1,5 @@
--- What the loop of `filling::run::run` keeps: the frames before it, in the order of filling, are placed and shown; and what is
--- known of the next. Assumes nothing.
+-- What the loop of `filling::run::run` keeps: the frames before it, in the order of filling, are placed and shown; and
+-- what is known of the next. Assumes nothing.
 use Rattle.std.proofs.Common.{◌≡◌, ◌-◌, ◌<◌, get_or}
 use Rattle.terms.specs.Lists.{count}
 use Rattle.filling.proofs.FillLoop.{Filling, AtFrame}
@@ -11,8 +11,8 @@ invariant-loop-i l =
       filling : Filling l.s l.list l.repetitions l.initial.cells l.initial.results l.cells l.results l.begun l.free l.i;
       counted : l.m ≡ count l.list;
       next :
-          l.i < l.m → AtFrame l.s l.list l.repetitions l.initial.cells l.initial.results l.cells l.results l.begun l.free l.i
-          (get_or l.frames l.i (record { signal = 0; repetition = 0 }));
+          l.i < l.m → AtFrame l.s l.list l.repetitions l.initial.cells l.initial.results l.cells l.results
+          l.begun l.free l.i (get_or l.frames l.i (record { signal = 0; repetition = 0 }));
     }
 
 abbrev pub decreases-loop-i : goal.decreases-loop-i

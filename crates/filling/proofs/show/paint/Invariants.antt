@@ -1,4 +1,5 @@
--- What the loop of `filling::show::paint` keeps: the cells of the frame's cycles before it are painted. Assumes nothing.
+-- What the loop of `filling::show::paint` keeps: the cells of the frame's cycles before it are painted.
+-- Assumes nothing.
 use Rattle.std.proofs.Common.{◌-◌}
 use Rattle.filling.specs.Private.{Paintable}
 use Rattle.filling.proofs.ShowLaws.{Painting}

@@ -3,15 +3,14 @@
 # Prints a line for each definition: `demands`, `contracts`, `cases` (01's starred cases), `private` or `idle`; its name, file, lines.
 # the file that the module path of a `use` line means
 function file_of(module,    part) {
-    sub(/^Rattle·/, "", module)
-    if (module !~ /specs/ || module ~ /\.declared\./) return ""
+    sub(/^Rattle\./, "", module)
+    if (module !~ /\.specs\./ || module ~ /\.declared\./) return ""
     split(module, part, ".")
-    sub(/·specs$/, "", part[1])
     return "crates/" part[1] "/specs/" part[3] ".antt"
 }
 function import(line, file,    module, names, n, i, item) {
     module = line
-    sub(/^(ghost )?use /, "", module); sub(/\.\{.*/, "", module)
+    sub(/^ *(ghost )?use /, "", module); sub(/\.\{.*/, "", module)
     names = line
     sub(/^[^{]*\{/, "", names); sub(/\}.*/, "", names)
     n = split(names, item, /, */)
@@ -19,7 +18,7 @@ function import(line, file,    module, names, n, i, item) {
 }
 # the words of a text that are definitions, seen from its file
 function uses(text, file, mark,    word, n, i, at) {
-    gsub(/[][(){},;.⌜⌝]/, " ", text)
+    gsub(/[][(){},;.]/, " ", text)
     n = split(text, word, " ")
     for (i = 1; i <= n; i++) {
         at = (file, word[i]) in from ? from[file, word[i]] : file
@@ -33,14 +32,14 @@ function reach(file, name, mark) {
 }
 FILENAME ~ /Lib\.antt$/ { next }
 FNR == 1 { inside = 0; held = ""; private[FILENAME] = $0 ~ /^-- For private contracts alone/ }
-/^(ghost )?use Rattle/ { import($0, FILENAME) }
-/^(ghost )?use .*\{$/ { held = $0; next }
+/^ *(ghost )?use Rattle/ { import($0, FILENAME) }
+/^ *(ghost )?use .*\{$/ { held = $0; next }
 held != "" { held = held " " $0; if ($0 ~ /^\}/) { import(held, FILENAME); held = "" } next }
 # contracts: the public routines' `ensures`
 FILENAME ~ /\.rt$/ {
     if ($0 ~ /^ *pub (extern "C" )?fn /) public = 1
     else if ($0 ~ /^ *(pub\(crate\) )?fn /) public = 0
-    if (public && $0 ~ /^ *ensures /) said = 1
+    if (public && $0 ~ /^ *ensures[ *]/) said = 1
     if ($0 ~ /^ *\{$/) said = 0
     if (said) contract[FILENAME] = contract[FILENAME] " " $0
     next

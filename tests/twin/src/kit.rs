@@ -1,8 +1,7 @@
-// Links caller.c with the static library by the tools of the Rattle kit, and starts programs of the kit.
-// The kit compiles for x86-64 on every machine; where that is not the processor, it has an emulator.
+// Links caller.c with the static library by the tools of the Rattle kit, and starts what they made and the program.
 
 use std::env;
-use std::ffi::{OsStr, OsString};
+use std::ffi::OsStr;
 use std::fs;
 use std::io::{Error, Result};
 use std::path::{Path, PathBuf};
@@ -18,18 +17,12 @@ fn library_folder() -> PathBuf {
     }
 }
 
-/// What of the kit is for this machine: of RATTLE_HOME, or else of the kit whose `rt` is on the path.
+/// The kit whose `rt` is on the path.
 fn kit_folder() -> Result<PathBuf> {
-    let home = match env::var_os("RATTLE_HOME") {
-        Some(named) => PathBuf::from(named),
-        None => {
-            let paths = env::var_os("PATH").unwrap_or_default();
-            let rt = env::split_paths(&paths).map(|folder| folder.join("rt")).find(|path| path.is_file());
-            let rt = rt.ok_or_else(|| Error::other("no rt on the path, and RATTLE_HOME is not set"))?;
-            fs::canonicalize(rt)?.ancestors().nth(2).unwrap_or(Path::new("/")).to_path_buf()
-        }
-    };
-    Ok(home.join("on").join(env::consts::ARCH))
+    let paths = env::var_os("PATH").unwrap_or_default();
+    let rt = env::split_paths(&paths).map(|folder| folder.join("rt")).find(|path| path.is_file());
+    let rt = rt.ok_or_else(|| Error::other("no rt on the path"))?;
+    Ok(fs::canonicalize(rt)?.ancestors().nth(2).unwrap_or(Path::new("/")).to_path_buf())
 }
 
 /// Runs a tool to its end; what it says is shown only if it fails.
@@ -43,22 +36,22 @@ fn run(tool: &Path, arguments: &[&OsStr]) -> Result<()> {
 }
 
 /// Compiles the caller and links it with the library, in a folder of its own.
-fn link(own: &Path, folder: &Path) -> Result<PathBuf> {
+fn link(kit: &Path, folder: &Path) -> Result<PathBuf> {
     let library = library_folder().join("libeditor.a");
     if !library.is_file() {
-        return Err(Error::other(format!("{} is missing: rt staticlib editor makes it", library.display())));
+        return Err(Error::other(format!("{} is missing: tests/native library makes it", library.display())));
     }
     let (source, object, program) = (folder.join("caller.c"), folder.join("caller.o"), folder.join("caller"));
     fs::write(&source, include_str!("../caller.c"))?;
     let target = format!("--target={TARGET}");
     let mut words: Vec<&OsStr> = [&target, "-O2", "-fPIC", "-ffreestanding", "-c", "-o"].map(OsStr::new).to_vec();
     words.extend([object.as_os_str(), source.as_os_str()]);
-    run(&own.join("toolchain/bin/clang"), &words)?;
-    let toolchain = own.join("toolchain");
+    run(&kit.join("toolchain/bin/clang"), &words)?;
+    let toolchain = kit.join("toolchain");
     let mut words: Vec<&OsStr> = ["--target", TARGET, "--toolchain"].map(OsStr::new).to_vec();
     words.extend([toolchain.as_os_str(), OsStr::new("-o"), program.as_os_str()]);
     words.extend([object.as_os_str(), library.as_os_str()]);
-    run(&own.join("bin/rattle-link"), &words)?;
+    run(&kit.join("bin/rattle-link"), &words)?;
     Ok(program)
 }
 
@@ -88,36 +81,24 @@ impl Drop for Folder {
 
 /// The caller, linked in the folder and started, its input and output in our hands.
 pub fn caller(folder: &Folder) -> Result<Child> {
-    let own = kit_folder()?;
-    let program = link(&own, &folder.path)?;
-    command(&words_to_start(&own, &program)).stderr(Stdio::inherit()).spawn()
+    let program = link(&kit_folder()?, &folder.path)?;
+    command(&program).stderr(Stdio::inherit()).spawn()
 }
 
-/// The words that start the planning program as rt made it, proved.
-pub fn shipped_program() -> Result<Vec<OsString>> {
-    let program = Path::new(env!("CARGO_MANIFEST_DIR")).join("../../target/bin/noctelvia");
+/// The planning program: NOCTELVIA_PROGRAM, or else the one that rt made, proved.
+pub fn program() -> Result<PathBuf> {
+    let made = Path::new(env!("CARGO_MANIFEST_DIR")).join("../../crates/noctelvia/out/noctelvia");
+    let program = env::var_os("NOCTELVIA_PROGRAM").map_or(made, PathBuf::from);
     if !program.is_file() {
-        return Err(Error::other(format!("{} is missing: rt check noctelvia makes it", program.display())));
+        return Err(Error::other(format!("{} is missing: tests/native program makes it", program.display())));
     }
-    Ok(words_to_start(&kit_folder()?, &program))
+    Ok(program)
 }
 
-/// The words that start a program of the kit under the kit's own loader and C library, as rt does.
-fn words_to_start(own: &Path, program: &Path) -> Vec<OsString> {
-    let (lib, emulator) = (own.join("toolchain/lib"), own.join("toolchain/bin/qemu-x86_64"));
-    let loader = lib.join("ld-linux-x86-64.so.2");
-    let mut words: Vec<OsString> = Vec::new();
-    if emulator.is_file() {
-        words.push(emulator.into());
-    }
-    words.extend([loader.into(), "--library-path".into(), lib.into(), program.into()]);
-    words
-}
-
-/// A command of the given words, its input and outputs in our hands and nothing from around it.
-pub fn command(words: &[OsString]) -> Command {
-    let mut command = Command::new(&words[0]);
-    command.args(&words[1..]).env_clear();
+/// A program to be started, its input and outputs in our hands and nothing from around it.
+pub fn command(program: &Path) -> Command {
+    let mut command = Command::new(program);
+    command.env_clear();
     command.stdin(Stdio::piped()).stdout(Stdio::piped()).stderr(Stdio::piped());
     command
 }

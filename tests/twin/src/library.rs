@@ -1,5 +1,5 @@
 // The library as the twin sees it: its C functions, called in a process of their own, in guarded room.
-// That process is caller.c with the static library, both x86-64; elsewhere the kit's emulator runs it.
+// That process is caller.c with the static library, both x86-64.
 
 use crate::guards::{guarded, opened, BESIDE_BYTES, BESIDE_WORDS};
 use crate::kit;

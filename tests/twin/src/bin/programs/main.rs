@@ -1,6 +1,5 @@
 // Compares the planning program with the twin, book by book: `programs [SEED] [COUNT]`; a seed brings a run back.
-// The program is the shipped one; where that needs an emulator, NOCTELVIA_PROGRAM may name one for this machine, which
-// then gets all books, and the shipped one every eleventh. `programs one FILE [CUT ..]` asks a kept book again.
+// NOCTELVIA_PROGRAM may name another program. `programs one FILE [CUT ..]` asks a kept book again.
 
 mod run;
 mod start;
@@ -8,44 +7,24 @@ mod tour;
 
 use run::{Found, Run};
 use std::env;
-use std::ffi::OsString;
 use std::io::Result;
+use std::path::Path;
 use std::process::ExitCode;
 use std::thread;
-use twin::kit::{beside_program, shipped_program};
+use twin::kit::{self, beside_program};
 
 const COUNT: u64 = 30_000;
 
-/// A program, and of how many books it gets one.
-struct Side {
-    name: &'static str,
-    words: Vec<OsString>,
-    every: u64,
-}
-
-fn sides() -> Result<Vec<Side>> {
-    let shipped = Side { name: "shipped program", words: shipped_program()?, every: 1 };
-    Ok(match env::var_os("NOCTELVIA_PROGRAM") {
-        None => vec![shipped],
-        Some(path) => {
-            let own = Side { name: "program for this machine", words: vec![path], every: 1 };
-            // A number that shares nothing with the round of kinds, so that each kind comes.
-            vec![own, Side { every: 11, ..shipped }]
-        }
-    })
-}
-
 /// Shares the books out among as many threads as there are processors.
-fn compare(side: &Side, seed: u64, count: u64) -> Run<'_> {
+fn compare(program: &Path, seed: u64, count: u64) -> Run<'_> {
     let threads = thread::available_parallelism().map_or(1, |threads| threads.get() as u64);
-    let mut whole = Run::new(&side.words, count / side.every);
+    let mut whole = Run::new(program, count);
     tour::named(&mut whole);
     thread::scope(|scope| {
         let share = |first| {
-            let mut run = Run::new(&side.words, count / side.every);
+            let mut run = Run::new(program, count);
             scope.spawn(move || {
-                let indices = (0..count).step_by(side.every as usize).enumerate();
-                indices.filter(|(at, _)| *at as u64 % threads == first).for_each(|(_, index)| run.drawn(seed, index));
+                (first..count).step_by(threads as usize).for_each(|index| run.drawn(seed, index));
                 run
             })
         };
@@ -71,31 +50,24 @@ fn keep(found: &[Found]) {
 
 fn all(seed: u64, count: u64) -> Result<ExitCode> {
     println!("programs: seed {seed}, count {count}");
-    let mut well = true;
-    for side in sides()? {
-        let run = compare(&side, seed, count);
-        println!(" {}", side.name);
-        // Both are reported, whatever the first says.
-        let reached = [run.numbers.report(), run.kinds.report()];
-        keep(&run.found);
-        println!("programs: {} books through the {}, {} differ", run.books, side.name, run.differ);
-        well = well && reached == [true, true] && run.differ == 0;
-    }
+    let program = kit::program()?;
+    let run = compare(&program, seed, count);
+    // Both are reported, whatever the first says.
+    let reached = [run.numbers.report(), run.kinds.report()];
+    keep(&run.found);
+    println!("programs: {} books through the program, {} differ", run.books, run.differ);
+    let well = reached == [true, true] && run.differ == 0;
     Ok(if well { ExitCode::SUCCESS } else { ExitCode::FAILURE })
 }
 
 /// Asks the book of a file again, in pieces with pauses where cuts are given.
 fn one(path: &str, cuts: &[usize]) -> Result<ExitCode> {
     let book = std::fs::read(path)?;
-    let mut well = true;
-    for side in sides()? {
-        let mut run = Run::new(&side.words, 0);
-        run.book(path, &book, cuts, !cuts.is_empty());
-        let what = run.found.first().map_or("the same", |found| &found.what);
-        println!("{}: {what}", side.name);
-        well = well && run.differ == 0;
-    }
-    Ok(if well { ExitCode::SUCCESS } else { ExitCode::FAILURE })
+    let program = kit::program()?;
+    let mut run = Run::new(&program, 0);
+    run.book(path, &book, cuts, !cuts.is_empty());
+    println!("{}", run.found.first().map_or("the same", |found| &found.what));
+    Ok(if run.differ == 0 { ExitCode::SUCCESS } else { ExitCode::FAILURE })
 }
 
 /// What the arguments ask for; None where they ask for nothing known.

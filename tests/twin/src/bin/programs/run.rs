@@ -2,7 +2,7 @@
 // Standard output is compared byte for byte; standard error is empty, or one sentence.
 
 use crate::start::{self, Wrote};
-use std::ffi::OsString;
+use std::path::Path;
 use twin::book::BLOCK_BYTES;
 use twin::drawn;
 use twin::program::{written, wrong_sentence};
@@ -22,7 +22,7 @@ pub struct Found {
 const KEPT: usize = 10;
 
 pub struct Run<'a> {
-    words: &'a [OsString],
+    program: &'a Path,
     pub numbers: Reached,
     pub kinds: Reached,
     pub books: u64,
@@ -51,10 +51,10 @@ fn wrong_output(output: &str, wanted: &str) -> Option<String> {
 
 impl<'a> Run<'a> {
     /// Of so many drawn books each number is to come to one in five hundred.
-    pub fn new(words: &'a [OsString], count: u64) -> Run<'a> {
+    pub fn new(program: &'a Path, count: u64) -> Run<'a> {
         let names = (0..10).map(|number| format!("gives {number}"));
         let numbers = Reached::expecting(names).at_least((count / 500).max(1));
-        Run { words, numbers, kinds: Reached::expecting(KINDS), books: 0, differ: 0, found: Vec::new() }
+        Run { program, numbers, kinds: Reached::expecting(KINDS), books: 0, differ: 0, found: Vec::new() }
     }
 
     /// A book of a seed; some go in by several writes, and a few of these with pauses.
@@ -74,7 +74,7 @@ impl<'a> Run<'a> {
     pub fn book(&mut self, name: &str, book: &[u8], cuts: &[usize], paused: bool) -> Answer {
         let (answer, wanted) = written(book);
         self.count(answer, book, cuts, paused);
-        let wrong = match start::plan(self.words, book, cuts, paused) {
+        let wrong = match start::plan(self.program, book, cuts, paused) {
             Err(error) => Some(format!("it could not be asked ({error})")),
             Ok(wrote) => self.wrong(&wrote, answer, &wanted),
         };

@@ -1,8 +1,8 @@
 // Starts the program on one book and gathers what it writes. The book goes in by one write or in pieces.
 // The program need not read to the end: one byte past the longest book is enough to refuse it.
 
-use std::ffi::OsString;
 use std::io::{ErrorKind, Result, Write};
+use std::path::Path;
 use std::thread::sleep;
 use std::time::Duration;
 use twin::kit::command;
@@ -24,8 +24,8 @@ fn pieces<'a>(bytes: &'a [u8], cuts: &[usize]) -> Vec<&'a [u8]> {
 /// Long enough for the program to read what is there and to wait for more.
 const PAUSE: Duration = Duration::from_millis(20);
 
-pub fn plan(words: &[OsString], bytes: &[u8], cuts: &[usize], paused: bool) -> Result<Wrote> {
-    let mut process = command(words).spawn()?;
+pub fn plan(program: &Path, bytes: &[u8], cuts: &[usize], paused: bool) -> Result<Wrote> {
+    let mut process = command(program).spawn()?;
     let mut input = process.stdin.take().ok_or_else(|| std::io::Error::other("the program has no pipe"))?;
     for piece in pieces(bytes, cuts) {
         match input.write_all(piece) {

@@ -51,7 +51,8 @@ pub extern "C" fn noctelvia_repetition(
     size: u32,
     bound: u32,
 ) -> u32
-    ensures { RepetitionGiven (settings_given cycle ticks slots packing payload) (signal_given unit period offset size bound) result }
+    ensures { RepetitionGiven (settings_given cycle ticks slots packing payload)
+        (signal_given unit period offset size bound) result }
 {
     editor::noctelvia_repetition(
         cycle, ticks, slots, packing, payload, unit, period, offset, size, bound,

@@ -1,5 +1,5 @@
 // The planning program: a book on standard input, the plan or the refusal as lines on standard output.
-// Thin: reading, planning and what they promise are in the libraries; beside a refusal a sentence goes to standard error.
+// Thin: reading, planning and what they promise are in the libraries. A refusal's reason goes to standard error.
 #![tactic(auto)]
 
 mod words;

@@ -26,7 +26,8 @@ fn because_of_plan(rt: &impl Eprint, answer: Answer) -> io::Result<()> {
             "Signal {i} has a field out of range: correct its unit, period, offset, size or bound."
         ),
         Answer::Bound(i) => eprintln!(rt;
-            "No repetition keeps the bound of signal {i} in every slot and at every base: raise its bound, or move its offset."
+            "No repetition keeps the bound of signal {i} in every slot and at every base: \
+             raise its bound, or move its offset."
         ),
         Answer::Slots(n) => eprintln!(rt;
             "The plan needs {n} slots, more than the segment has: add slots, raise bounds or strike signals."
@@ -51,7 +52,8 @@ pub fn because(rt: &impl Eprint, answer: Answer) -> io::Result<()> {
             "Block {k} (from 0) has a wrong number or kind: blocks are missing, doubled or out of order."
         ),
         Answer::Count => eprintln!(rt;
-            "The signal count is over 600 or does not fit the blocks: correct word 7 of block 0 or word 2 of a signal block."
+            "The signal count is over 600 or does not fit the blocks: \
+             correct word 7 of block 0 or word 2 of a signal block."
         ),
         Answer::Zero(k) => eprintln!(rt;
             "A word of block {k} (from 0) that must be zero is not: clear what is unused."

@@ -1,6 +1,6 @@
 /* Noctelvia: the planner for the static segment of one FlexRay channel, as a C program calls it.
  *
- * Link target/staticlib/libeditor.a (made by `rt staticlib editor`, for x86-64).
+ * Link target/staticlib/libeditor.a (made by `tests/native library`, for x86-64).
  *
  * Every call answers every input: there is nothing to check beforehand. Nothing is kept between calls, no memory
  * is allocated, and calls may be made from several threads at once. All numbers are those of the book of blocks:

@@ -192,8 +192,8 @@ pub behind_yes : Behind 1 (5 ∷ 6 ∷ []) (7 ∷ 6 ∷ [])
 behind_yes = (
   refl,
   λ j. elim j as (λ k. 1 ≤ k → get_or {A = ℕ} (7 ∷ 6 ∷ []) k 0 ≡ get_or {A = ℕ} (5 ∷ 6 ∷ []) k 0) [
-    zero ↦ λ h. absurd (omega (arith, h)) |
-    suc j ↦ λ h. refl
+    | zero ↦ λ h. absurd (omega (arith, h))
+    | suc j ↦ λ h. refl
   ],
 )
 

@@ -4,6 +4,7 @@ pub mod StoredLaws
 pub mod AlongLaws
 pub mod DivisorLaws
 pub mod GivenLaws
+pub mod LentLaws
 pub mod NumbersLaws
 pub mod RemainderLaws
 pub mod SaysLaws

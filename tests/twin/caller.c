@@ -1,4 +1,4 @@
-// Calls the library on the twin's behalf: the library's code is for x86-64, the twin runs on any machine.
+// Calls the library on the twin's behalf, in a process of its own.
 // It judges nothing. Commands come in, answers and memory go out, and all comparing is the twin's.
 
 typedef __UINT8_TYPE__ u8;
@@ -23,7 +23,7 @@ WEAK u64 noctelvia_plan_list(u32 cycle, u32 slot_length, u32 slots, u32 packing,
                              u32 *results, size results_words);
 WEAK u64 noctelvia_plan(const u8 *book, size book_bytes, u8 *results, size result_bytes);
 
-// Of the C library; declared here because no headers for x86-64 need to be on the machine.
+// Of the C library; declared here because the kit brings no headers of it.
 long read(int file, void *to, size bytes);
 long write(int file, const void *from, size bytes);
 void _exit(int status);

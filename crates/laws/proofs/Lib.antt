@@ -4,7 +4,6 @@ pub mod StoredLaws
 pub mod AlongLaws
 pub mod DivisorLaws
 pub mod GivenLaws
-pub mod LentLaws
 pub mod NumbersLaws
 pub mod RemainderLaws
 pub mod SaysLaws
@@ -13,3 +12,4 @@ pub mod FactTests
 pub mod Orders
 pub mod SumLaws
 pub mod DecidedLaws
+pub mod OptionLaws

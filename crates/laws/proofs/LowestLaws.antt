@@ -1,12 +1,11 @@
 -- Laws of the lowest number without a property: there is at most one, and how a loop from 1 on comes to it.
 -- Assumes nothing.
-use mathlib.Core.Path.{◌≡◌, refl}
-use mathlib.Core.Logic.{inl, inr, dite}
+use mathlib.Core.Path.{◌≡◌}
+use mathlib.Core.Logic.{dite}
 use Prim.Native.Nat.{ℕ, ◌+◌, ◌≤◌, ◌<◌}
 use native.Mathlib.Decide.{ℕ_discrete}
 use native.Mathlib.Omega.{arith}
 use Rattle.laws.specs.Lowest.{EachTo, LowestWithout}
-use Rattle.laws.specs.Loops.{LowestOrNone}
 
 -- each number below i has the property, and i is the next, or one past the last
 pub record Reached (m : ℕ) (P : ℕ → Type 0) (i : ℕ) : Type 0 where
@@ -29,22 +28,6 @@ module _ (m : ℕ) (P : ℕ → Type 0) where
 
   pub reached_fails : (i : ℕ) → Reached m P i → i ≤ m → (P i → ⊥) → LowestWithout m P i
   reached_fails i r h f = record { within = (r.first, h); fails = f; before = r.passed }
-
-  -- what a loop gives at its end, and where it stops
-  pub none_without : (i : ℕ) → Reached m P i → m < i → LowestOrNone m P 0
-  none_without i r h = inl (refl, reached_all i r h)
-
-  pub stops : (i : ℕ) → Reached m P i → i ≤ m → (P i → ⊥) → LowestOrNone m P i
-  stops i r h f = inr (reached_fails i r h f)
-
-  -- what a test of the number given learns
-  pub none_each : (r : ℕ) → LowestOrNone m P r → r ≡ 0 → EachTo m P
-  none_each r (inl f) e = f.1
-  none_each r (inr l) e = absurd (omega (arith, l.within.0))
-
-  pub some_lowest : (r : ℕ) → LowestOrNone m P r → (r ≡ 0 → ⊥) → LowestWithout m P r
-  some_lowest r (inl f) n = absurd (n f.0)
-  some_lowest r (inr l) n = l
 
   pub lowest_not_each : (i : ℕ) → LowestWithout m P i → EachTo m P → ⊥
   lowest_not_each i l e = l.fails (e i l.within)

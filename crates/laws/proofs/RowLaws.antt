@@ -78,11 +78,11 @@ module _ (rest : List Row) (done : ℕ → Type 0) (n p : ℕ) where
   past (r ∷ rs) h (inr f) = past rs h.1 f.1
 
   -- a refusal by the front is one whatever is asked after
-  pub refused_front : (front : List Row) (other : ℕ → Type 0) → Numbered front → (n ≡ 0 → ⊥) → FirstRow front other n p
+  pub refused_front : (front : List Row) (other : ℕ → Type 0) → (n ≡ 0 → ⊥) → FirstRow front other n p
       → FirstRow (front ++ rest) done n p
-  refused_front [] other k z f = absurd (z f.0)
-  refused_front (r ∷ rs) other k z (inl f) = inl f
-  refused_front (r ∷ rs) other k z (inr f) = inr (f.0, refused_front rs other k.1 z f.1)
+  refused_front [] other z f = absurd (z f.0)
+  refused_front (r ∷ rs) other z (inl f) = inl f
+  refused_front (r ∷ rs) other z (inr f) = inr (f.0, refused_front rs other z f.1)
 
   -- and what refuses by the front refuses so whatever else is asked after
   pub same_front : (front other : List Row) (also : ℕ → Type 0) → (Hold front → ⊥) → FirstRow (front ++ rest) done n p

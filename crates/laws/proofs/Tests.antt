@@ -2,9 +2,11 @@
 -- turns it into the fact at each.
 use mathlib.Core.Bool.{Bool, true, false}
 use mathlib.Core.Path.{sym, subst}
-use mathlib.Core.Logic.{⊎_elim}
+use mathlib.Core.Logic.{⊎_elim, dite}
 use Prim.Native.Nat.{ℕ, zero, suc, ◌<◌}
-use native.Mathlib.Nat.{not-suc-le-zero, eq-or-lt_of_le, le_of_suc-le-suc, suc_inj, le_step, le_refl}
+use native.Mathlib.Decide.{ℕ_discrete}
+use native.Mathlib.Omega.{arith}
+use native.Mathlib.Nat.{not-suc-le-zero, eq-or-lt_of_le, le_of_suc-le-suc, suc_inj}
 use lib.Dec.{T}
 use Rattle.laws.specs.Says.{Says}
 
@@ -32,15 +34,13 @@ at f (suc n) t k h =
     (λ l. at f n (both_right (f n) (below f n) t) k (le_of_suc-le-suc l))
     (eq-or-lt_of_le h)
 
--- a test that decides a fact at each number, at all below n
-pub below_says : (P : ℕ → Type 0) (f : ℕ → Bool) → ((k : ℕ) → Says (P k) (f k)) → (n : ℕ) → Says ((k : ℕ) → k < n → P k) (below f n)
-below_says P f s zero = λ k h. absurd (not-suc-le-zero h)
-below_says P f s (suc n) = from (f n) (below f n) (s n) (below_says P f s n)
+-- a test that decides a fact at each number below n, at all of them
+pub below_within : (P : ℕ → Type 0) (f : ℕ → Bool) (n : ℕ) → ((k : ℕ) → k < n → Says (P k) (f k))
+    → Says ((k : ℕ) → k < n → P k) (below f n)
+below_within P f zero s = λ k h. absurd (omega arith)
+below_within P f (suc n) s = joined (f n) (below f n) (s n (omega arith)) (below_within P f n (λ k h. s k (omega arith)))
   where
-    all : P n → ((k : ℕ) → k < n → P k) → (k : ℕ) → k < suc n → P k
-    all p q k h = ⊎_elim (λ e. subst P (sym (suc_inj e)) p) (λ l. q k (le_of_suc-le-suc l)) (eq-or-lt_of_le h)
-
-    from : (a b : Bool) → Says (P n) a → Says ((k : ℕ) → k < n → P k) b → Says ((k : ℕ) → k < suc n → P k) (both a b)
-    from true true p q = all p q
-    from true false p q = λ h. q (λ k l. h k (le_step l))
-    from false b p q = λ h. p (h n (le_refl (suc n)))
+    joined : (a b : Bool) → Says (P n) a → Says ((k : ℕ) → k < n → P k) b → Says ((k : ℕ) → k < suc n → P k) (both a b)
+    joined true true p q = λ k h. dite (ℕ_discrete k n) (λ e. rw e p) (λ m. q k (omega arith))
+    joined true false p q = λ all. q (λ k h. all k (omega arith))
+    joined false b p q = λ all. p (all n (omega arith))

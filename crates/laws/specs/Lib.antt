@@ -5,6 +5,5 @@ pub mod Along
 pub mod Divisor
 pub mod Rows
 pub mod Lowest
-pub mod Loops
 pub mod Stored
 pub mod Sums

@@ -8,14 +8,14 @@ use Prim.Native.Nat.{ℕ}
 use lib.Dec.{eqb}
 use Rattle.laws.specs.Rows.{Row, FirstRow}
 use Rattle.laws.proofs.RowLaws.{Single, one_outcome}
-use Rattle.terms.specs.declared.Answer.{Answer}
-use Rattle.terms.specs.declared.Answer.TheVariants.{Done, Length, Check, Kind, Count, Zero, Setting, Field, Bound, Slots, Room, Taken}
-use Rattle.terms.specs.Answers.{number_of, place_of, Answers}
+use Rattle.std.specs.Prelude.{Ok, Err}
+use Rattle.terms.specs.declared.Refusal.{Refusal}
+use Rattle.terms.specs.declared.Refusal.TheVariants.{Length, Check, Kind, Count, Zero, Setting, Field, Bound, Slots, Room, Taken}
+use Rattle.terms.specs.Answers.{Answer, refusal_number, refusal_place, number_of, place_of, Answers}
 
--- the answer of a number and a place
-answer_of : ℕ → ℕ → Answer
-answer_of n p =
-    cond (eqb n 0) (Done p) (
+-- the refusal of a number and a place, and the answer
+refusal_of : ℕ → ℕ → Refusal
+refusal_of n p =
     cond (eqb n 1) Length (
     cond (eqb n 2) (Check p) (
     cond (eqb n 3) (Kind p) (
@@ -26,25 +26,34 @@ answer_of n p =
     cond (eqb n 8) (Bound p) (
     cond (eqb n 9) (Slots p) (
     cond (eqb n 10) (Room p) (
-    Taken p)))))))))))
+    Taken p))))))))))
+
+answer_of : ℕ → ℕ → Answer
+answer_of n p = cond (eqb n 0) (Ok p) (Err (refusal_of n p))
 
 known : (a : Answer) → answer_of (number_of a) (place_of a) ≡ a
-unfolding answer_of
-known (Done p) = refl
-known Length = refl
-known (Check p) = refl
-known (Kind p) = refl
-known Count = refl
-known (Zero p) = refl
-known (Setting p) = refl
-known (Field p) = refl
-known (Bound p) = refl
-known (Slots p) = refl
-known (Room p) = refl
-known (Taken p) = refl
+unfolding answer_of refusal_of
+known (Ok p) = refl
+known (Err Length) = refl
+known (Err (Check p)) = refl
+known (Err (Kind p)) = refl
+known (Err Count) = refl
+known (Err (Zero p)) = refl
+known (Err (Setting p)) = refl
+known (Err (Field p)) = refl
+known (Err (Bound p)) = refl
+known (Err (Slots p)) = refl
+known (Err (Room p)) = refl
+known (Err (Taken p)) = refl
 
 pub answer_known : (a b : Answer) → number_of a ≡ number_of b → place_of a ≡ place_of b → a ≡ b
 answer_known a b d e = sym (known a) ∙ ap₂ answer_of d e ∙ known b
+
+-- a refusal's number is not 0
+pub refusal_numbered : (e : Refusal) → refusal_number e ≡ 0 → ⊥
+refusal_numbered e z =
+    let done : Err e ≡ Ok (refusal_place e) = answer_known (Err e) (Ok (refusal_place e)) z refl in
+    cc done
 
 pub answers_unique : (rs : List Row) (done : ℕ → Type 0) → ((p q : ℕ) → done p → done q → p ≡ q) → Single rs
     → (a b : Answer) → Answers rs done a → Answers rs done b → a ≡ b
@@ -64,7 +73,7 @@ answerable_join [] rest k l = l
 answerable_join (r ∷ rs) rest k l = (k.0, answerable_join rs rest k.1 l)
 
 pub answer_exists : (rs : List Row) (done : ℕ → Type 0) (n p : ℕ) → Answerable rs → FirstRow rs done n p → (a : Answer) × Answers rs done a
-answer_exists [] done n p k (e, d) = (Done p, (refl, d))
+answer_exists [] done n p k (e, d) = (Ok p, (refl, d))
 answer_exists (r ∷ rs) done n p k (inl (f, e, q)) =
     let b = k.0 p q in (b.0, inl (f, b.1, subst r.place (sym b.2) q))
 answer_exists (r ∷ rs) done n p k (inr (h, f)) =

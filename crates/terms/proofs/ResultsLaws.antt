@@ -10,7 +10,7 @@ use lib.ListN.{length, get_or}
 use Rattle.laws.specs.Lowest.{EachTo}
 use Rattle.laws.specs.Stored.{stored}
 use Rattle.laws.proofs.StoredLaws.{stored_word, stored_others}
-use Rattle.terms.specs.declared.Result.{Result}
+use Rattle.terms.specs.declared.SignalResult.{SignalResult}
 use Rattle.terms.specs.Results.{words_of, result_size, result_start, result_from, result_at}
 
 -- two rows of words that agree on a result's words give one result
@@ -28,10 +28,10 @@ each_place P slot base repetition age (suc (suc (suc (suc d)))) h = absurd (omeg
 -- and rows of words that give one result agree on its words
 pub same_words : (v w : ℕ → ℕ) → result_from v ≡ result_from w → (d : ℕ) → d < result_size → v d ≡ w d
 same_words v w e =
-    each_place (λ d. v d ≡ w d) (ap (λ (r : Result). r.frame.slot) e) (ap (λ (r : Result). r.frame.base) e)
-    (ap (λ (r : Result). r.frame.repetition) e) (ap (λ (r : Result). r.age) e)
+    each_place (λ d. v d ≡ w d) (ap (λ (r : SignalResult). r.frame.slot) e) (ap (λ (r : SignalResult). r.frame.base) e)
+    (ap (λ (r : SignalResult). r.frame.repetition) e) (ap (λ (r : SignalResult). r.age) e)
 
-module _ (l : List ℕ) (i : ℕ) (r : Result) where
+module _ (l : List ℕ) (i : ℕ) (r : SignalResult) where
   pub result_stored : result_start i + result_size ≤ length l → result_at (λ d. get_or (stored l (result_start i) (words_of r)) d 0) i ≡ r
   result_stored room =
       same_result (λ d. get_or (stored l (result_start i) (words_of r)) (result_start i + d) 0) (λ d. get_or (words_of r) d 0)
@@ -45,7 +45,7 @@ module _ (l : List ℕ) (i : ℕ) (r : Result) where
 
 -- ---- what holds of each word of each result holds of each of their words
 
-abbrev pub EachWord : (ℕ → Type 0) → Result → Type 0
+abbrev pub EachWord : (ℕ → Type 0) → SignalResult → Type 0
 EachWord P r = P r.frame.slot × P r.frame.base × P r.frame.repetition × P r.age
 
 pub each_word : (P : ℕ → Type 0) (word : ℕ → ℕ) (m : ℕ) → EachTo m (λ i. EachWord P (result_at word i)) → (j : ℕ) → j < result_size * m

@@ -3,20 +3,29 @@
 use mathlib.Core.Path.{◌≡◌, ◌∙◌, sym}
 use mathlib.Core.Bool.{Bool}
 use mathlib.Core.List.{List}
-use Prim.Native.Nat.{ℕ}
+use Prim.Native.Nat.{ℕ, ◌≤◌}
+use lib.ListN.{get_or}
+use Rattle.std.specs.Prelude.{◌≢◌, ◌↔◌, Option, Some, unwrap_or, IsSome}
 use Rattle.laws.specs.Says.{Says}
 use Rattle.laws.specs.Stored.{stored}
 use Rattle.laws.proofs.SaysLaws.{says_unique}
+use Rattle.laws.proofs.OptionLaws.{same_not_zero, same_where}
+use Rattle.terms.specs.declared.Refusal.{Refusal}
 use Rattle.terms.specs.declared.Settings.{Settings}
 use Rattle.terms.specs.declared.Signal.{Signal}
 use Rattle.terms.specs.declared.Frame.{Frame}
-use Rattle.terms.specs.declared.Result.{Result}
-use Rattle.terms.specs.declared.Answer.{Answer}
-use Rattle.terms.specs.Answers.{number_of, place_of, packed_of}
+use Rattle.terms.specs.declared.SignalResult.{SignalResult}
+use Rattle.terms.specs.Answers.{Answer, refusal_number, refusal_place, number_of, place_of, packed_of}
 use Rattle.terms.specs.Ranges.{LowestOutOfRange, setting_word, SignalInRange, Valid, Repetition, FrameInRange}
 use Rattle.terms.specs.Lists.{count, CountInRange, signal_at}
-use Rattle.terms.specs.Results.{result_start, words_of}
+use Rattle.terms.specs.Results.{result_start, result_at, words_of}
 use Rattle.terms.proofs.RangesLaws.{lowest_word_unique}
+
+pub refusal_number_unique : (e : Refusal) (q r : ℕ) → q ≡ refusal_number e → r ≡ refusal_number e → q ≡ r
+refusal_number_unique e q r d f = d ∙ sym f
+
+pub refusal_place_unique : (e : Refusal) (q r : ℕ) → q ≡ refusal_place e → r ≡ refusal_place e → q ≡ r
+refusal_place_unique e q r d f = d ∙ sym f
 
 pub number_unique : (a : Answer) (q r : ℕ) → q ≡ number_of a → r ≡ number_of a → q ≡ r
 number_unique a q r d e = d ∙ sym e
@@ -27,8 +36,9 @@ place_unique a q r d e = d ∙ sym e
 pub packed_unique : (a : Answer) (q r : ℕ) → q ≡ packed_of a → r ≡ packed_of a → q ≡ r
 packed_unique a q r d e = d ∙ sym e
 
-pub setting_out_of_range_unique : (s : Settings) (v w : ℕ) → LowestOutOfRange s v → LowestOutOfRange s w → v ≡ w
-setting_out_of_range_unique s = lowest_word_unique s
+pub setting_out_of_range_unique : (s : Settings) (v w : Option ℕ) → LowestOutOfRange s (unwrap_or v 0) → v ≢ Some 0
+    → LowestOutOfRange s (unwrap_or w 0) → w ≢ Some 0 → v ≡ w
+setting_out_of_range_unique s v w k m l n = same_not_zero v w m n (lowest_word_unique s (unwrap_or v 0) (unwrap_or w 0) k l)
 
 pub signal_in_range_unique : (s : Settings) (x : Signal) (a b : Bool) → Says (SignalInRange s x) a → Says (SignalInRange s x) b → a ≡ b
 signal_in_range_unique s x = says_unique (SignalInRange s x)
@@ -42,8 +52,9 @@ is_repetition_unique R = says_unique (Repetition R)
 pub frame_in_range_unique : (s : Settings) (f : Frame) (a b : Bool) → Says (FrameInRange s.slots f) a → Says (FrameInRange s.slots f) b → a ≡ b
 frame_in_range_unique s f = says_unique (FrameInRange s.slots f)
 
-pub setting_word_unique : (s : Settings) (w q r : ℕ) → q ≡ setting_word s w → r ≡ setting_word s w → q ≡ r
-setting_word_unique s w q r d e = d ∙ sym e
+pub setting_word_unique : (s : Settings) (w : ℕ) (q r : Option ℕ) → unwrap_or q 0 ≡ setting_word s w → IsSome q ↔ (2 ≤ w) × (w ≤ 6)
+    → unwrap_or r 0 ≡ setting_word s w → IsSome r ↔ (2 ≤ w) × (w ≤ 6) → q ≡ r
+setting_word_unique s w q r d f e g = same_where q r f g (d ∙ sym e)
 
 pub count_unique : (list : List ℕ) (q r : ℕ) → q ≡ count list → r ≡ count list → q ≡ r
 count_unique list q r d e = d ∙ sym e
@@ -54,6 +65,10 @@ count_in_range_unique list = says_unique (CountInRange list)
 pub signal_at_unique : (list : List ℕ) (i : ℕ) (x y : Signal) → x ≡ signal_at list i → y ≡ signal_at list i → x ≡ y
 signal_at_unique list i x y d e = d ∙ sym e
 
-pub put_result_unique : (l : List ℕ) (i : ℕ) (r : Result) (a b : List ℕ) → a ≡ stored l (result_start i) (words_of r)
+pub result_at_unique : (results : List ℕ) (i : ℕ) (r q : SignalResult) → r ≡ result_at (λ d. get_or results d 0) i
+    → q ≡ result_at (λ d. get_or results d 0) i → r ≡ q
+result_at_unique results i r q d e = d ∙ sym e
+
+pub put_result_unique : (l : List ℕ) (i : ℕ) (r : SignalResult) (a b : List ℕ) → a ≡ stored l (result_start i) (words_of r)
     → b ≡ stored l (result_start i) (words_of r) → a ≡ b
 put_result_unique l i r a b d e = d ∙ sym e

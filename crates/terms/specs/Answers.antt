@@ -1,37 +1,48 @@
 -- The number and the place of each answer, in the order of "Numbers the planner gives back".
-use Rattle.std.specs.Prelude.{◌≡◌, List, ℕ, ◌+◌, ◌*◌, ◌≤◌}
+use Rattle.std.specs.Prelude.{◌≡◌, List, ℕ, ◌+◌, ◌*◌, ◌≤◌, Result, Ok, Err}
 use Rattle.laws.specs.Rows.{Row, FirstRow}
-use Rattle.terms.specs.declared.Answer.{Answer}
-use Rattle.terms.specs.declared.Answer.TheVariants.{Done, Length, Check, Kind, Count, Zero}
-use Rattle.terms.specs.declared.Answer.TheVariants.{Setting, Field, Bound, Slots, Room, Taken}
+use Rattle.terms.specs.declared.Refusal.{Refusal}
+use Rattle.terms.specs.declared.Refusal.TheVariants.{Length, Check, Kind, Count, Zero}
+use Rattle.terms.specs.declared.Refusal.TheVariants.{Setting, Field, Bound, Slots, Room, Taken}
 
+-- done, with its place, or a refusal
+abbrev pub Answer : Type 0
+Answer = Result ℕ Refusal
+
+abbrev pub refusal_number : Refusal → ℕ
+refusal_number Length = 1
+refusal_number (Check p) = 2
+refusal_number (Kind p) = 3
+refusal_number Count = 4
+refusal_number (Zero p) = 5
+refusal_number (Setting p) = 6
+refusal_number (Field p) = 7
+refusal_number (Bound p) = 8
+refusal_number (Slots p) = 9
+refusal_number (Room p) = 10
+refusal_number (Taken p) = 11
+
+abbrev pub refusal_place : Refusal → ℕ
+refusal_place Length = 0
+refusal_place (Check p) = p
+refusal_place (Kind p) = p
+refusal_place Count = 0
+refusal_place (Zero p) = p
+refusal_place (Setting p) = p
+refusal_place (Field p) = p
+refusal_place (Bound p) = p
+refusal_place (Slots p) = p
+refusal_place (Room p) = p
+refusal_place (Taken p) = p
+
+-- 0 where all is done
 abbrev pub number_of : Answer → ℕ
-number_of (Done p) = 0
-number_of Length = 1
-number_of (Check p) = 2
-number_of (Kind p) = 3
-number_of Count = 4
-number_of (Zero p) = 5
-number_of (Setting p) = 6
-number_of (Field p) = 7
-number_of (Bound p) = 8
-number_of (Slots p) = 9
-number_of (Room p) = 10
-number_of (Taken p) = 11
+number_of (Ok p) = 0
+number_of (Err r) = refusal_number r
 
 abbrev pub place_of : Answer → ℕ
-place_of (Done p) = p
-place_of Length = 0
-place_of (Check p) = p
-place_of (Kind p) = p
-place_of Count = 0
-place_of (Zero p) = p
-place_of (Setting p) = p
-place_of (Field p) = p
-place_of (Bound p) = p
-place_of (Slots p) = p
-place_of (Room p) = p
-place_of (Taken p) = p
+place_of (Ok p) = p
+place_of (Err r) = refusal_place r
 
 -- what a C caller gets: the number times 4,294,967,296, plus the place
 abbrev pub packed_of : Answer → ℕ

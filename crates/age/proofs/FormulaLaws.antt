@@ -3,6 +3,7 @@ use mathlib.Core.Path.{◌≡◌, ◌∙◌, ap}
 use Prim.Native.Nat.{ℕ, ◌+◌, ◌*◌, ◌-◌, ◌/◌, ◌%◌, ◌≤◌, ◌<◌}
 use native.Mathlib.Nat.{add-mod-mod, mod-add-div', mod-lt, mul-le-mul_right, lt_of_mul-lt-mul_right, add-mod_right}
 use native.Mathlib.Omega.{arith}
+use Rattle.laws.specs.Divisor.{Divides}
 use Rattle.laws.proofs.Orders.{factors_positive}
 use Rattle.laws.proofs.RemainderLaws.{same_remainder, splits_remainder, rounded_up_lem}
 use Rattle.age.specs.Formula.{Remainder, Longest, rounded_up, p_max}
@@ -49,3 +50,9 @@ remainder_ahead first offset g h =
     let split = mod-add-div' offset g in
     let less = mod-lt offset h in
     record { below = mod-lt _ h; remains = rw add-mod-mod (same_remainder g _ _ (0, offset / g + 1, omega arith)) }
+
+-- the same, of what a multiple of g has above the offset
+pub remainder_of_multiple : (first offset period g : ℕ) → 0 < g → Divides g period → offset ≤ period
+    → Remainder first offset g ((first + (period - offset)) % g)
+remainder_of_multiple first offset period g h (m, e) l =
+    record { below = mod-lt _ h; remains = rw add-mod-mod (same_remainder g _ _ (0, m, omega arith)) }

@@ -1,6 +1,7 @@
 pub mod AgeLaws
 pub mod AgeTests
 pub mod FormulaLaws
+pub mod FramesLaws
 pub mod RangedFrames
 pub mod AgeGivenLaws
 pub mod RangeTests

@@ -1,4 +1,4 @@
--- What the ranges say of a frame's numbers: its first start lies before its span ends, and all are small.
+-- What the ranges say of a frame's numbers: its first start lies before its span ends, and its span is short.
 use Prim.Native.Nat.{◌+◌, ◌-◌, ◌≤◌, ◌<◌}
 use native.Mathlib.Nat.{mul-le-mul_right, mul-le-mul}
 use native.Mathlib.Omega.{arith}
@@ -10,7 +10,6 @@ use Rattle.laws.specs.Lowest.{Between}
 use Rattle.terms.specs.Ranges.{SettingsInRange}
 use Rattle.age.specs.Age.{first_start, span_of}
 use Rattle.age.specs.AgeGiven.{InRange}
-use Rattle.age.specs.Bounds.{Bounded}
 
 -- a frame in a slot of the segment, in a cycle below its repetition, starts before its span ends
 pub first_below : (s : Settings) (f : Frame) → SettingsInRange s → Between 1 s.slots f.slot
@@ -19,8 +18,11 @@ first_below s f v h l =
     let before : f.slot - 1 + 1 ≤ s.slots = omega arith in
     omega (arith, mul-le-mul_right s.cycle l, mul-le-mul_right s.slot before)
 
-abbrev pub FrameBounded : Settings → Signal → Frame → Type 0
-FrameBounded s x f = Bounded (first_start s f) (span_of s f) s.packing s.slot x.period
+-- the formula's sums fit 32 bits
+pub record FrameBounded (s : Settings) (x : Signal) (f : Frame) : Type 0 where
+  pub first_below : first_start s f < span_of s f
+  pub span_most : span_of s f ≤ 1024000
+  pub period_least : 0 < x.period
 
 pub frame_bounded : (s : Settings) (x : Signal) (f : Frame) → InRange s x f → FrameBounded s x f
 frame_bounded s x f r =

@@ -8,6 +8,9 @@ use Rattle.terms.specs.Ranges.{Valid, FrameInRange}
 use Rattle.age.specs.Age.{Age}
 use Rattle.age.specs.Formula.{Longest}
 
+abbrev pub frame_in : (slot R base : ℕ) → Frame
+frame_in slot R base = record { slot = slot; repetition = R; base = base }
+
 pub record InRange (s : Settings) (x : Signal) (f : Frame) : Type 0 where
   pub valid : Valid s x
   pub frame : FrameInRange s.slots f

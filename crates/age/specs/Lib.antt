@@ -1,4 +1,3 @@
 pub mod Age
 pub mod Formula
 pub mod AgeGiven
-pub mod Bounds

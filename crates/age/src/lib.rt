@@ -1,66 +1,87 @@
-// The age of one signal in one frame.
-// Promises: the definition's age, over all releases for ever; 0 exactly where something is out of range.
+// The age of one signal in one frame, and in the frames of one repetition.
+// Promises: the definition's age, over all releases for ever; none exactly where something is out of range.
 #![tactic(auto)]
 
-ghost use Rattle.laws.specs.Says.{Says};
-ghost use Rattle.age.specs.Age.{IsAge, Age};
-ghost use Rattle.age.specs.AgeGiven.{InRange, AgeGiven, LongestGiven};
-ghost use Rattle.age.specs.Bounds.{Bounded};
+ghost use Rattle.std.specs.Prelude.{◌≡◌, ◌*◌, ◌%◌, ◌<◌, ◌↔◌, IfSome, IsSome, unwrap_or};
+ghost use Rattle.laws.specs.Divisor.{IsGcd};
+ghost use Rattle.terms.specs.Ranges.{Valid, Repetition};
+ghost use Rattle.age.specs.AgeGiven.{frame_in, InRange, AgeGiven, LongestGiven};
 
 use terms::{Frame, Settings, Signal};
 
-// The largest number below `limit` that leaves what `n` leaves by `g`, or 0 where there is none.
-pub fn longest_wait(limit: u32, n: u32, g: u32) -> u32
-    ensures { LongestGiven limit n g result }
+// The largest number below `limit` that leaves what `n` leaves by `g`.
+pub fn longest_wait(limit: u32, n: u32, g: u32) -> Option<u32>
+    ensures given { LongestGiven limit n g (unwrap_or result 0) }
+    ensures some { IsSome result ↔ (0 < g) × (n % g < limit) }
 {
-    if g == 0 {
-        return 0;
-    }
-    let d = n % g;
-    if limit <= d {
-        return 0;
+    if g == 0 || limit <= n % g {
+        return None;
     }
     let top = limit - 1;
-    top - (top - d) % g
+    Some(top - (top - n % g) % g)
 }
 
-// The formula: the longest wait by the greatest common divisor, and the slot length.
-fn by_formula(first: u32, span: u32, packing: u32, slot: u32, offset: u32, period: u32) -> u32
-    requires { Bounded first span packing slot period }
-    ensures { IsAge first span packing slot offset period result }
-{
-    let g = laws::gcd(period, span);
-    let ahead = g - offset % g;
-    longest_wait(packing + span, first + ahead, g) + slot
+// The frames of a signal with one repetition: one divisor for the ages in all of them.
+#[derive(Clone, Copy)]
+pub struct Frames {
+    pub settings: Settings,
+    pub signal: Signal,
+    pub repetition: u32,
+    divisor: u32,
+    ghost valid: { Valid settings signal },
+    ghost seven: { ∥ Repetition repetition ∥₁ },
+    ghost greatest: { ∥ IsGcd signal.period (repetition * settings.cycle) divisor ∥₁ },
 }
 
-fn in_range(s: Settings, x: Signal, f: Frame) -> bool
-    ensures { Says (InRange s x f) result }
-{
-    if !terms::valid(s, x) {
-        return false;
+impl Frames {
+    pub fn of(s: Settings, x: Signal, repetition: u32) -> Option<Self>
+        ensures of { IfSome result (λ p. (p.settings ≡ s) × (p.signal ≡ x) × (p.repetition ≡ repetition)) }
+        ensures some { IsSome result ↔ Valid s x × Repetition repetition }
+    {
+        if !terms::valid(s, x) || !terms::is_repetition(repetition) {
+            return None;
+        }
+        Some(Frames {
+            settings: s,
+            signal: x,
+            repetition,
+            divisor: laws::gcd(x.period, repetition * s.cycle),
+        })
     }
-    if !terms::frame_in_range(s, f) {
-        return false;
+
+    // The formula: the longest wait by the greatest common divisor of the period and the frame's span, and the slot
+    // length. There is such a wait, since the divisor is at most the span. The period is a multiple of it, so the
+    // period less the offset leaves what −offset leaves.
+    #[tactic(auto, using(crate::proofs::FramesLaws::bounded, crate::proofs::FramesLaws::wait_there))]
+    pub fn age(self, slot: u32, base: u32) -> Option<u32>
+        ensures given { AgeGiven self.settings self.signal (frame_in slot self.repetition base) (unwrap_or result 0) }
+        ensures some { IsSome result ↔ InRange self.settings self.signal (frame_in slot self.repetition base) }
+    {
+        let s = self.settings;
+        let x = self.signal;
+        let f = Frame {
+            slot,
+            repetition: self.repetition,
+            base,
+        };
+        if !terms::frame_in_range(s, f) {
+            return None;
+        }
+        let span = self.repetition * s.cycle;
+        let first = base * s.cycle + (slot - 1) * s.slot;
+        let wait = longest_wait(
+            s.packing + span,
+            first + (x.period - x.offset),
+            self.divisor,
+        )?;
+        Some(wait + s.slot)
     }
-    true
 }
 
-fn age_in_range(s: Settings, x: Signal, f: Frame) -> u32
-    requires { InRange s x f }
-    ensures { Age s x f result }
+// The age of signal x in frame f.
+pub fn age(s: Settings, x: Signal, f: Frame) -> Option<u32>
+    ensures given { AgeGiven s x f (unwrap_or result 0) }
+    ensures some { IsSome result ↔ InRange s x f }
 {
-    let span = f.repetition * s.cycle;
-    let first = f.base * s.cycle + (f.slot - 1) * s.slot;
-    by_formula(first, span, s.packing, s.slot, x.offset, x.period)
-}
-
-// The age of signal x in frame f, or 0 where a setting, the signal or the frame is out of range.
-pub fn age(s: Settings, x: Signal, f: Frame) -> u32
-    ensures { AgeGiven s x f result }
-{
-    if !in_range(s, x, f) {
-        return 0;
-    }
-    age_in_range(s, x, f)
+    Frames::of(s, x, f.repetition)?.age(f.slot, f.base)
 }

@@ -1,2 +1,3 @@
+pub mod AllLaws
 pub mod RuleLaws
 pub mod RuleTests

@@ -1,19 +1,15 @@
--- `rule::keeps` meets its contract: the search over plain numbers, with one divisor for all places, decides it.
--- Assumes nothing.
-use Rattle.std.proofs.Common.{arith}
-use Rattle.laws.proofs.DivisorLaws.{divisor_at_most}
+-- `rule::keeps` meets its contract: base by base. Assumes nothing.
+use Rattle.std.proofs.Common.{refl, rules}
 use Rattle.laws.proofs.SaysLaws.{says_same}
-use Rattle.rule.proofs.RuleLaws.{span_range, searched_keeps, keeps_searched}
+use Rattle.rule.specs.Places.{KeptAt}
+use Rattle.rule.proofs.AllLaws.{all_says}
+use Rattle.rule.proofs.RuleLaws.{each_keeps, keeps_each}
 use Rattle.rule.proofs.keeps.Goals as goal
-
-pub bases_keep-requires : goal.bases_keep-requires
-bases_keep-requires c =
-    let span = span_range c.args.s c.args.x c.requires.0 c.args.r c.requires.1 in
-    let divides = divisor_at_most _ _ c.gcd-g.ensures.right span.0 in
-    omega arith
 
 pub returns : goal.returns
 returns c =
-    let valid = c.requires.0 in
-    says_same c.bases_keep.result (searched_keeps _ _ valid c.args.r _ c.gcd-g.ensures)
-    (keeps_searched _ _ valid c.args.r _ c.gcd-g.ensures) c.bases_keep.ensures
+    let s = c.args.frames.settings in
+    let x = c.args.frames.signal in
+    let r = c.args.frames.repetition in
+    says_same c.all.result (each_keeps s x r) (keeps_each s x r)
+    (all_says r (KeptAt s x r) (λ b q h call. (search rules, search rules)) refl _ c.all.result c.all.ensures.ran)

@@ -1,9 +1,10 @@
 -- For each public routine: two outcomes that its contract allows are equal. A word of the machine is below 2^64.
 -- Assumes nothing.
-use mathlib.Core.Path.{◌≡◌, refl, sym, ◌∙◌}
+use mathlib.Core.Path.{◌≡◌, refl, sym, ap, ◌∙◌}
 use mathlib.Core.Bool.{Bool}
 use Prim.Native.Nat.{ℕ, ◌^◌, ◌<◌}
 use native.Mathlib.Omega.{arith}
+use Rattle.std.specs.Prelude.{Option, Some, None, IfSome, unwrap_or}
 use Rattle.laws.specs.Says.{Says}
 use Rattle.laws.proofs.SaysLaws.{says_unique}
 use Rattle.cycles.specs.declared.Tally.{Tally}
@@ -51,8 +52,15 @@ fresh_unique u a b ha hb p q =
 not_before : {s : Slot} {a b : ℕ} → FirstFree s a → FirstFree s b → a < b → ⊥
 not_before {a = a} p q h = q.before a h (p.found (omega (arith, q.within)))
 
-pub first_free_unique : (s : Slot) (a b : ℕ) → FirstFree s a → FirstFree s b → a ≡ b
-first_free_unique s a b p q = omega (arith, not_before p q, not_before q p)
+pub one_first_free : (s : Slot) (a b : ℕ) → FirstFree s a → FirstFree s b → a ≡ b
+one_first_free s a b p q = omega (arith, not_before p q, not_before q p)
+
+pub first_free_unique : (s : Slot) (a b : Option ℕ) → FirstFree s (unwrap_or a 64) → IfSome a (λ c. c < 64)
+    → FirstFree s (unwrap_or b 64) → IfSome b (λ c. c < 64) → a ≡ b
+first_free_unique s None None p l q k = refl
+first_free_unique s None (Some d) p l q k = absurd (omega (arith, one_first_free s 64 d p q))
+first_free_unique s (Some c) None p l q k = absurd (omega (arith, one_first_free s c 64 p q))
+first_free_unique s (Some c) (Some d) p l q k = ap Some (one_first_free s c d p q)
 
 pub all_free_unique : (s : Slot) (R base : ℕ) (a b : Bool) → Says (AllFree s R base) a → Says (AllFree s R base) b
     → a ≡ b

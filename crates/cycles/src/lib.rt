@@ -2,7 +2,7 @@
 // Promises: every word is given by its 64 bits, for all inputs; what is no repetition or no base names no cycle and adds no load.
 #![tactic(auto)]
 
-ghost use Rattle.std.specs.Prelude.{◌≡◌};
+ghost use Rattle.std.specs.Prelude.{◌≡◌, ◌<◌, IfSome, unwrap_or};
 ghost use Rattle.laws.specs.Says.{Says};
 ghost use Rattle.cycles.specs.Bits.{Mask};
 ghost use Rattle.cycles.specs.Frames.{Multiple, Names};
@@ -20,14 +20,17 @@ const PATTERNS: [u64; 7] = [
     0x0000_0000_0000_0001,
 ];
 
+// The most slot-cycles that a tally holds.
+const MOST_LOAD: u32 = 38400;
+
 // A unit's load in slot-cycles: a frame of repetition R adds 64/R.
-#[derive(Clone, Copy)]
+#[derive(Clone, Copy, Debug, PartialEq, Eq)]
 pub struct Tally {
     pub load: u32,
 }
 
 // The slot being filled: its unit, and its free cycles as set bits.
-#[derive(Clone, Copy)]
+#[derive(Clone, Copy, Debug, PartialEq, Eq)]
 pub struct Slot {
     pub unit: u32,
     pub free: u64,
@@ -37,27 +40,26 @@ pub struct Slot {
 pub fn pattern(repetition: u32) -> u64
     ensures { Mask result (Multiple repetition) }
 {
-    if !terms::is_repetition(repetition) {
-        return 0;
+    if terms::is_repetition(repetition) {
+        PATTERNS[repetition.trailing_zeros() as usize]
+    } else {
+        0
     }
-    let e = u32::trailing_zeros(repetition) as usize;
-    PATTERNS[e]
 }
 
 // The cycles of a frame.
 pub fn cycles_of(repetition: u32, base: u32) -> u64
     ensures { Mask result (Names repetition base) }
 {
-    if !terms::is_repetition(repetition) {
-        return 0;
+    if terms::is_repetition(repetition) && base < repetition {
+        pattern(repetition) << base
+    } else {
+        0
     }
-    if repetition <= base {
-        return 0;
-    }
-    pattern(repetition) << base
 }
 
 impl Tally {
+    // The tally with a frame more; it stays where the number is no repetition or would take it past the most.
     pub fn add(self, repetition: u32) -> Tally
         ensures { Tallied self.load repetition result.load }
     {
@@ -65,7 +67,7 @@ impl Tally {
             return self;
         }
         let more = 64 / repetition;
-        if 38400 - more < self.load {
+        if MOST_LOAD - more < self.load {
             return self;
         }
         Tally {
@@ -77,7 +79,7 @@ impl Tally {
     pub fn slots(self) -> u32
         ensures { result ≡ slots_for self.load }
     {
-        ((self.load as u64 + 63) / 64) as u32
+        self.load.div_ceil(64)
     }
 }
 
@@ -91,11 +93,16 @@ impl Slot {
         }
     }
 
-    // The first free cycle, or 64 where none is free.
-    pub fn first_free(self) -> u32
-        ensures { FirstFree self result }
+    // The first free cycle, where one is free.
+    pub fn first_free(self) -> Option<u32>
+        ensures first { FirstFree self (unwrap_or result 64) }
+        ensures some { IfSome result (λ c. c < 64) }
     {
-        u64::trailing_zeros(self.free)
+        if self.free == 0 {
+            None
+        } else {
+            Some(self.free.trailing_zeros())
+        }
     }
 
     // Whether all cycles of a frame are free.
@@ -117,11 +124,10 @@ impl Slot {
         }
     }
 
-    // The step that places a frame: in the slot lent to it the frame's cycles are cleared, and the unit stays.
+    // The step that places a frame, `take` of the slot lent to it: the frame's cycles are cleared, and the unit stays.
     pub fn clear(&mut self, repetition: u32, base: u32)
         ensures { FrameTaken self.old repetition base self.new }
     {
-        let slot = *self;
-        *self = slot.take(repetition, base);
+        *self = self.take(repetition, base);
     }
 }

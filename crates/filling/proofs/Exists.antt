@@ -13,7 +13,7 @@ use native.Mathlib.Omega.{arith}
 use lib.ListN.{length, get_or, set}
 use Rattle.laws.specs.Lowest.{Between, EachTo}
 use Rattle.terms.specs.declared.Settings.{Settings}
-use Rattle.terms.specs.declared.Result.{Result}
+use Rattle.terms.specs.declared.SignalResult.{SignalResult}
 use Rattle.terms.specs.Requests.{PlanRoom, plan_room}
 use Rattle.terms.specs.Ranges.{Repetition, FrameInRange}
 use Rattle.terms.specs.Lists.{count, signal_at, group_of, groups}
@@ -94,7 +94,7 @@ module _ (list : List ℕ) (R : ℕ → ℕ) (seven : EachTo (count list) (λ i.
 -- ---- the results
 
 module _ (s : Settings) (list : List ℕ) where
-  result : (p : Placed) → (r : Result) × ResultOf s list p r
+  result : (p : Placed) → (r : SignalResult) × ResultOf s list p r
   result p =
       let a = age_given_exists s (signal_at list p.signal) p.frame in
       (record { frame = p.frame; age = a.0 }, record { frame = refl; age = a.1 })

@@ -8,12 +8,11 @@ pub mod FilledLaws
 pub mod DrawnLaws
 pub mod LoadLaws
 pub mod FewestLaws
-pub mod Beside
-pub mod TurnLaws
-pub mod Turning
-pub mod Tallying
-pub mod OrderedLaws
 pub mod Gathering
+pub mod Tallying
+pub mod SignalsLaws
+pub mod Putting
+pub mod OrderedLaws
 pub mod StepLaws
 pub mod ShowLaws
 pub mod FillLoop

@@ -10,8 +10,9 @@ use native.Mathlib.Nat.{mul-le-mul_right, suc-mul}
 use native.Mathlib.Decide.{ℕ_discrete, dec_lt}
 use native.Mathlib.Omega.{arith}
 use borrow.Author.Count.{below_more}
-use lib.ListN.{length, get_or, set, length-set}
+use lib.ListN.{length, get_or, set, drop, replicate, length-set, length-append, length-drop, length-replicate}
 use lib.Seq.{get_or-set_same, get_or-set_other}
+use Rattle.std.proofs.lemmas.Grind.{common_steps}
 use Rattle.laws.specs.Lowest.{Between}
 use Rattle.laws.specs.Stored.{stored}
 use Rattle.laws.proofs.StoredLaws.{stored_length, stored_others}
@@ -56,22 +57,18 @@ module _ (P : ℕ → ℕ → Type 0) (entry : List ℕ) where
         later = λ j l. get_or-set_other exit n j x 0 (λ e. omega arith) ∙ f.later j (omega arith);
       }
 
-abbrev pub Cleared : (entry cells : List ℕ) → ℕ → Type 0
-Cleared = Front (λ j x. x ≡ 0)
-
-pub clearing_all : (slots : ℕ) (entry cells : List ℕ) (j : ℕ) → Cleared entry cells j → j ≡ 64 * slots
-    → CellsShow slots [] entry cells
-clearing_all slots entry cells j f e =
+-- all cells of the slots 0, and those behind them as they were
+pub cleared : (slots : ℕ) (entry cells : List ℕ) → 64 * slots ≤ length entry
+    → cells ≡ replicate (64 * slots) 0 ++ drop (64 * slots) entry → CellsShow slots [] entry cells
+cleared slots entry cells h e =
+    let n = 64 * slots in
+    let long = length-replicate {A = ℕ} n 0 in
     record {
-      same_length = f.same_length;
+      same_length = ap length e ∙ length-append (replicate n 0) (drop n entry) ∙ omega (arith, long, length-drop n entry);
       holds = λ p k c m. absurd (Memᴰ.not-nil m);
-      empty = λ k c b l n. f.first (64 * (k - 1) + c) (omega arith);
-      later = λ i l. f.later i (omega arith);
+      empty = λ k c b l q. grind (arith, common_steps, e);
+      later = λ i l. grind (arith, common_steps, e);
     }
-
--- cleared cells show nothing, whatever they were
-pub shown_none : {n : ℕ} {entry cells : List ℕ} → CellsShow n [] entry cells → CellsShow n [] cells cells
-shown_none g = record { same_length = refl; holds = g.holds; empty = g.empty; later = λ j l. refl }
 
 pub shown_then : {n : ℕ} {ps : List Placed} {entry cells exit : List ℕ}
     → CellsShow n [] entry cells → CellsShow n ps cells exit → CellsShow n ps entry exit
@@ -92,10 +89,6 @@ module _ (f : Frame) (signal : ℕ) (entry : List ℕ) where
     pub reached : c ≡ f.base + times * f.repetition
     pub holds : (n : ℕ) → n < times → cell_of cells f.slot (f.base + n * f.repetition) ≡ signal
     pub others : (k d : ℕ) → 1 ≤ k → d < 64 → (Sends f k d → ⊥) → cell_of cells k d ≡ cell_of entry k d
-
-  pub painting_none : Painting entry f.base
-  painting_none =
-      record { same_length = refl; times = 0; reached = omega arith; holds = omega arith; others = omega arith }
 
   module _ (cells : List ℕ) (c : ℕ) (p : Painting cells c) where
     module _ (can : Paintable entry f) (small : c < 64) where

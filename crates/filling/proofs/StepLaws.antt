@@ -6,6 +6,11 @@ use mathlib.Core.Logic.{◌⊎◌, inl, inr, dite}
 use Prim.Native.Nat.{ℕ, ◌+◌, ◌%◌, ◌≤◌, ◌<◌, zero-le}
 use native.Mathlib.Decide.{dec_lt}
 use native.Mathlib.Omega.{arith}
+use mathlib.Core.List.{List, []}
+use borrow.Author.Count.{below_more}
+use lib.ListN.{length, set as stored}
+use lib.Seq.{get_or-set_same, get_or-set_other}
+use Rattle.std.specs.Prelude.{Some}
 use borrow.Author.Tests.{lt-ltb, le-ltb}
 use Rattle.laws.proofs.SumLaws.{same_cases}
 use Rattle.terms.specs.Ranges.{Repetition}
@@ -16,13 +21,12 @@ use Rattle.cycles.specs.Frames.{Names}
 use Rattle.cycles.specs.Slots.{Free, Fresh, FirstFree, AllFree, FrameTaken}
 use Rattle.cycles.proofs.BitLaws.{bit_lt, bit_none}
 use Rattle.cycles.proofs.FrameLaws.{named_remainder, remainder_named}
-use Rattle.cycles.proofs.Unique.{first_free_unique}
+use Rattle.cycles.proofs.Unique.{one_first_free}
 use Rattle.filling.specs.declared.UnitFrame.{UnitFrame}
-use Rattle.filling.specs.declared.run.Current.{Current}
-use Rattle.filling.specs.declared.run.Step.TheVariants.{At}
+use Rattle.filling.specs.declared.current.Current.{Current}
 use Rattle.filling.specs.Cycles.{Cycles, takes, first_free}
 use Rattle.filling.specs.Runs.{State, start, goes_to, after}
-use Rattle.filling.specs.Private.{Holds, Holding, NoTrouble, Stepped}
+use Rattle.filling.specs.Private.{Holds, Holding, NoTrouble, Stepped, current_in}
 use Rattle.filling.specs.Private.Stepped.{goes}
 use Rattle.filling.proofs.CycleLaws.{is_first_free}
 
@@ -32,7 +36,7 @@ use Rattle.filling.proofs.CycleLaws.{is_first_free}
 first_alike : (cycles : Cycles) (s : Slot) → Holds cycles s.free → (r : ℕ) → FirstFree s r → r ≡ first_free cycles
 first_alike cycles s h r f =
     let w = is_first_free cycles in
-    first_free_unique s r (first_free cycles) f
+    one_first_free s r (first_free cycles) f
     (record {
       within = w.within;
       before = λ c l e. w.before c zero-le l (omega (arith, w.within, h c (omega (arith, w.within)), e));
@@ -43,6 +47,15 @@ first_alike cycles s h r f =
 pub start_holds : (k : ℕ) (c : Current) → c.begun ≡ k → c.slot.free ≡ 0 → Holding c.slot.unit (start k) c
 start_holds k c b f =
     record { unit = refl; begun = b; cycles = λ d l. omega (arith, ap (λ (x : ℕ). bit x d) f, bit_none d) }
+
+-- the groups before g, and g itself, begin where they are to
+pub begun_next : (before : ℕ → ℕ) (all : List Current) (g : ℕ) (c : Current) → g < length all
+    → Holding g (start (before g)) c → ((h : ℕ) → h < g → Holding h (start (before h)) (current_in all h))
+    → (h : ℕ) → h < g + 1 → Holding h (start (before h)) (current_in (stored all g c) h)
+begun_next before all g c l here earlier =
+    below_more (λ (h : ℕ). Holding h (start (before h)) (current_in (stored all g c) h)) g
+    (λ h k. rw (get_or-set_other all g h c (current_in [] 0) (λ e. omega arith)) (earlier h k))
+    (rw (get_or-set_same all g c (current_in [] 0) l) here)
 
 -- ---- the slot that a frame goes to
 
@@ -107,7 +120,7 @@ module _ {u : ℕ} (s : State) (f : UnitFrame) (seven : Repetition f.repetition)
                 (λ p. absurd (g (omega (arith, bit_lt to.slot.free c), unnamed)))
                 (λ p. omega (arith, h.cycles c l, q.1))
 
-        pub frame_placed : Stepped u s f (At (record { slot = to.begun; repetition = R; base = b }) d)
+        pub frame_placed : Stepped u s f (Some (record { slot = to.begun; repetition = R; base = b })) d
         frame_placed =
             rw (h.begun, base_alike)
             (goes (record { below = omega (arith, base_alike); free = untaken })

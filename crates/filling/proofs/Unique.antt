@@ -2,17 +2,17 @@
 -- the results. What is shown depends on the repetitions of the signals alone.
 -- Assumes nothing.
 use mathlib.Core.Path.{◌≡◌, refl, sym, ◌∙◌}
-use mathlib.Core.List.{List, ◌∷◌, Memᴰ}
+use mathlib.Core.List.{List, Memᴰ}
 use mathlib.Core.Logic.{dite}
-use Prim.Native.Nat.{ℕ, zero, suc, ◌+◌, ◌*◌, ◌/◌, ◌%◌, ◌≤◌, ◌<◌}
-use native.Mathlib.Nat.{le_refl}
+use Prim.Native.Nat.{ℕ, ◌+◌, ◌*◌, ◌/◌, ◌%◌, ◌≤◌, ◌<◌}
 use native.Mathlib.Decide.{ℕ_discrete, dec_lt}
 use native.Mathlib.Omega.{arith}
+use Rattle.std.specs.Prelude.{Result}
 use lib.ListN.{length, get_or}
 use lib.Seq.{ext_get_or}
 use Rattle.laws.specs.Lowest.{Between, EachTo}
 use Rattle.terms.specs.declared.Settings.{Settings}
-use Rattle.terms.specs.declared.Result.{Result}
+use Rattle.terms.specs.declared.SignalResult.{SignalResult}
 use Rattle.terms.specs.Requests.{Request, PlanRoom, plan_room}
 use Rattle.terms.specs.Lists.{count, signal_at, group_of}
 use Rattle.terms.specs.Results.{result_size, result_start}
@@ -20,26 +20,19 @@ use Rattle.terms.proofs.ResultsLaws.{same_words}
 use Rattle.age.proofs.AgeGivenLaws.{age_given_unique}
 use Rattle.cycles.specs.Frames.{Sends}
 use Rattle.filling.specs.declared.UnitFrame.{UnitFrame}
-use Rattle.filling.specs.declared.Filled.{Filled}
+use Rattle.filling.specs.declared.Unfilled.{Unfilled}
 use Rattle.filling.specs.Ordered.{ordered}
 use Rattle.filling.specs.Runs.{Placed, start}
-use Rattle.filling.specs.Filled.{frames_from, fill_from, filled}
+use Rattle.filling.specs.Filled.{fill_from, filled}
 use Rattle.filling.specs.Shown.{cell_of, CellsShow, ResultOf, EachResult, ResultsShow}
 use Rattle.filling.specs.Outcomes.{repetition_in, FillOutcome}
 use Rattle.filling.specs.Outcomes.FillOutcome.{unfit, short, done}
 use Rattle.filling.proofs.LoadLaws.{needed_same}
 use Rattle.filling.proofs.ShowLaws.{cell_at}
+use Rattle.filling.proofs.Gathering.{frames_same}
 use Rattle.filling.proofs.FilledLaws.{filled_some}
 
 -- ---- of the repetitions of the signals alone
-
-frames_same : (R Q : ℕ → ℕ) (n i : ℕ) → ((j : ℕ) → i ≤ j → j < i + n → R j ≡ Q j)
-    → frames_from R n i ≡ frames_from Q n i
-unfolding frames_from
-frames_same R Q zero i h = refl
-frames_same R Q (suc n) i h =
-    let rest = frames_same R Q n (suc i) (λ j l k. h j (omega arith) (omega arith)) in
-    λ t. record { signal = i; repetition = h i (le_refl i) (omega arith) t } ∷ rest t
 
 pub filled_same : (list : List ℕ) (R Q : ℕ → ℕ) → EachTo (count list) (λ i. R i ≡ Q i) → filled list R ≡ filled list Q
 filled_same list R Q h =
@@ -74,7 +67,7 @@ module _ {slots : ℕ} {places : List Placed} {entry a b : List ℕ} (x : CellsS
         sym (cell_at a j) ∙ same_cell (j / 64 + 1) (j % 64) (omega arith) (omega arith) ∙ cell_at b j)
 
 module _ (s : Settings) (list : List ℕ) where
-  result_one : (p : Placed) {q r : Result} → ResultOf s list p q → ResultOf s list p r → q ≡ r
+  result_one : (p : Placed) {q r : SignalResult} → ResultOf s list p q → ResultOf s list p r → q ≡ r
   result_one p {q} {r} x y =
       let frame = x.frame ∙ sym y.frame in
       let age = age_given_unique s (signal_at list p.signal) p.frame q.age r.age x.age y.age in
@@ -108,7 +101,7 @@ module _ (s : Settings) (list : List ℕ) where
 
 -- ---- one outcome
 
-pub fill_unique : (x : Request) (words : List ℕ) (lent : PlanRoom) {f g : Filled} {a b : PlanRoom}
+pub fill_unique : (x : Request) (words : List ℕ) (lent : PlanRoom) {f g : Result ℕ Unfilled} {a b : PlanRoom}
     → FillOutcome x words lent f a → FillOutcome x words lent g b → (f ≡ g) × (a ≡ b)
 fill_unique x words lent (unfit n) (unfit m) = (refl, refl)
 fill_unique x words lent (unfit n) (short h l) = absurd (n h)

@@ -3,7 +3,7 @@ use Rattle.std.specs.Prelude.{◌≡◌, ℕ, ◌+◌, ◌*◌, ◌-◌, ◌≤�
 use mathlib.Core.List.{List, Memᴰ}
 use Rattle.laws.specs.Lowest.{Between}
 use Rattle.terms.specs.declared.Settings.{Settings}
-use Rattle.terms.specs.declared.Result.{Result}
+use Rattle.terms.specs.declared.SignalResult.{SignalResult}
 use Rattle.terms.specs.Lists.{count, signal_at}
 use Rattle.terms.specs.Results.{result_size, result_at}
 use Rattle.age.specs.AgeGiven.{AgeGiven}
@@ -28,7 +28,7 @@ pub record CellsShow (slots : ℕ) (places : List Placed) (entry exit : List ℕ
   pub later : (j : ℕ) → 64 * slots ≤ j → get_or exit j 0 ≡ get_or entry j 0
 
 -- the result of a placed frame: it, and its age there
-pub record ResultOf (s : Settings) (list : List ℕ) (p : Placed) (r : Result) : Type 0 where
+pub record ResultOf (s : Settings) (list : List ℕ) (p : Placed) (r : SignalResult) : Type 0 where
   pub frame : r.frame ≡ p.frame
   pub age : AgeGiven s (signal_at list p.signal) p.frame r.age
 

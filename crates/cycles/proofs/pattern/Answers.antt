@@ -6,15 +6,14 @@ use Rattle.cycles.proofs.PatternLaws.{exponent_zeros, pattern_of}
 use Rattle.cycles.proofs.Patterns.{patterns}
 use Rattle.cycles.proofs.pattern.Goals as goal
 
-pub returns-then-not-is_repetition : goal.returns-then-not-is_repetition
-returns-then-not-is_repetition c =
-    mask_none _ (λ k m. c.if-not-is_repetition.ensures m.repetition)
-
-pub bounds-e : goal.bounds-e
-bounds-e c =
-    let seven = c.if-not-is_repetition.ensures in
+pub bounds-repetition : goal.bounds-repetition
+bounds-repetition c =
+    let seven = c.if-is_repetition.ensures in
     omega (arith, exponent_zeros seven, seven)
 
-pub returns : goal.returns
+pub returns-then-is_repetition : goal.returns-then-is_repetition
 unfolding patterns
-returns c = pattern_of c.if-not-is_repetition.ensures
+returns-then-is_repetition c = pattern_of c.if-is_repetition.ensures
+
+pub returns-else-is_repetition : goal.returns-else-is_repetition
+returns-else-is_repetition c = mask_none _ (λ k m. c.if-is_repetition.ensures m.repetition)

@@ -1,12 +1,8 @@
 -- What the loop of `filling::show::paint` keeps: the cells of the frame's cycles before it are painted.
 -- Assumes nothing.
-use Rattle.std.proofs.Common.{◌-◌}
 use Rattle.filling.specs.Private.{Paintable}
 use Rattle.filling.proofs.ShowLaws.{Painting}
 use Rattle.filling.proofs.show.paint.Given as goal
 
 abbrev pub invariant-loop-c : goal.invariant-loop-c
 invariant-loop-c l = Painting l.f l.signal l.fn.cells l.cells l.c × Paintable l.fn.cells l.f
-
-abbrev pub decreases-loop-c : goal.decreases-loop-c
-decreases-loop-c l = 64 - l.c

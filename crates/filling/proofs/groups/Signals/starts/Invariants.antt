@@ -1,0 +1,15 @@
+-- What the loop of `filling::groups::Signals::starts` keeps: the groups before it begin where they are to.
+-- Assumes nothing.
+use Rattle.std.proofs.Common.{ℕ, ◌≡◌, ◌<◌, length}
+use Rattle.terms.specs.Lists.{groups}
+use Rattle.filling.specs.Runs.{start}
+use Rattle.filling.specs.Private.{Holding, before, current_in}
+use Rattle.filling.proofs.groups.Signals.starts.Given as goal
+
+abbrev pub invariant-loop-g : goal.invariant-loop-g
+invariant-loop-g l =
+    record {
+      begun : (h : ℕ) → h < l.g → Holding h (start (before l.self h)) (current_in l.groups h);
+      needed : l.needed ≡ before l.self l.g;
+      whole : length l.groups ≡ groups;
+    }

@@ -4,18 +4,20 @@ use Rattle.std.proofs.Common.{◌≡◌, ℕ, List, length, sym, ◌∙◌, ⊎_
 use mathlib.Core.Logic.{dite}
 use native.Mathlib.Decide.{ℕ_discrete}
 use Rattle.laws.specs.Given.{Given}
+use Rattle.laws.proofs.OptionLaws.{same_not_zero}
 use Rattle.laws.proofs.GivenLaws.{given_unique}
 use Rattle.terms.specs.declared.Settings.{Settings}
-use Rattle.terms.specs.declared.Answer.{Answer}
+use Rattle.std.specs.Prelude.{◌≢◌, Option, Some, Result, Ok, Err, unwrap_or}
+use Rattle.terms.specs.declared.Refusal.{Refusal}
 use Rattle.terms.specs.Lists.{count}
-use Rattle.terms.specs.Answers.{number_of}
+use Rattle.terms.specs.Answers.{Answer, number_of, place_of}
 use Rattle.terms.proofs.AnswersLaws.{answers_unique}
 use Rattle.book.specs.declared.Reading.{Reading}
 use Rattle.book.specs.Words.{bytes_after}
 use Rattle.book.specs.Blocks.{blocks_for, writing_rows}
 use Rattle.book.specs.Reading.{signals_of, reading_rows}
 use Rattle.book.specs.Part.{HasSignal, part_start}
-use Rattle.book.specs.Outcomes.{ReadOutcome, SettingsOutcome, WriteOutcome, PartOutcome}
+use Rattle.book.specs.Outcomes.{answer_of, ReadOutcome, SettingsOutcome, WriteOutcome, PartOutcome}
 use Rattle.book.proofs.SoundLaws.{reading_single, sound_or_not}
 use Rattle.book.proofs.PartLaws.{has_or_not}
 
@@ -25,18 +27,23 @@ same d e = d ∙ sym e
 both : {A B : Type 0} {a b c : A} {x y z : B} → (a ≡ c) × (x ≡ z) → (b ≡ c) × (y ≡ z) → (a ≡ b) × (x ≡ y)
 both d e = (same d.0 e.0, same d.1 e.1)
 
-pub read_one : {book lent : List ℕ} {r r' : Reading} {exit exit' : List ℕ}
+pub read_one : {book lent : List ℕ} {r r' : Result Reading Refusal} {exit exit' : List ℕ}
     → ReadOutcome book lent r exit → ReadOutcome book lent r' exit' → (r ≡ r') × (exit ≡ exit')
 read_one {book} {lent} {r} {r'} x y =
-    let answer = answers_unique (reading_rows book (length lent)) (λ p. p ≡ signals_of book) (λ p q. same)
-    (reading_single book (length lent)) r.answer r'.answer x.answer y.answer in
-    let done = rw (← answer) at y.done in
-    let refused = rw (← answer) at y.refused in
-    let rest = dite (ℕ_discrete (number_of r.answer) 0) (λ z. both (x.done z) (done z))
-    (λ n. both (x.refused n) (refused n)) in
-    (λ i. record { answer = answer i; settings = rest.0 i }, rest.1)
+    alike r r' x y
+    (answers_unique (reading_rows book (length lent)) (λ p. p ≡ signals_of book) (λ p q. same)
+    (reading_single book (length lent)) (answer_of r) (answer_of r') x.answer y.answer)
+  where
+    alike : (r r' : Result Reading Refusal) {exit exit' : List ℕ} → ReadOutcome book lent r exit
+        → ReadOutcome book lent r' exit' → answer_of r ≡ answer_of r' → (r ≡ r') × (exit ≡ exit')
+    alike (Ok x) (Ok y) p q answer =
+        let (settings, exit) = both p.done q.done in
+        (λ i. Ok (record { settings = settings i; signals = place_of (answer i) }), exit)
+    alike (Ok x) (Err e) p q answer = cc answer
+    alike (Err e) (Ok y) p q answer = cc answer
+    alike (Err d) (Err e) p q answer = (cc answer, same p.refused q.refused)
 
-pub settings_of_one : {book : List ℕ} {s t : Settings} → SettingsOutcome book s → SettingsOutcome book t → s ≡ t
+pub settings_of_one : {book : List ℕ} {s t : Option Settings} → SettingsOutcome book s → SettingsOutcome book t → s ≡ t
 settings_of_one {book} x y =
     ⊎_elim (λ h. same (x.sound h) (y.sound h)) (λ n. same (x.unsound n) (y.unsound n)) (sound_or_not book)
 
@@ -54,9 +61,11 @@ pub part_one : {book : List ℕ} {place : ℕ × ℕ} {i : ℕ} {r r' : List ℕ
 part_one {book} {i = i} x y =
     ⊎_elim (λ h. both (x.has h) (y.has h)) (λ n. both (x.lacks n) (y.lacks n)) (has_or_not book i)
 
-pub part_at_one : (book : List ℕ) (i p q : ℕ) → Given (HasSignal book i) (λ n. n ≡ part_start i) p
-    → Given (HasSignal book i) (λ n. n ≡ part_start i) q → p ≡ q
-part_at_one book i = given_unique (HasSignal book i) (λ n. n ≡ part_start i) (λ p q. same)
+pub part_at_one : (book : List ℕ) (i : ℕ) (p q : Option ℕ)
+    → Given (HasSignal book i) (λ n. n ≡ part_start i) (unwrap_or p 0) → p ≢ Some 0
+    → Given (HasSignal book i) (λ n. n ≡ part_start i) (unwrap_or q 0) → q ≢ Some 0 → p ≡ q
+part_at_one book i p q x some y some' =
+    same_not_zero p q some some' (given_unique (HasSignal book i) (λ n. n ≡ part_start i) (λ p q. same) _ _ x y)
 
 pub put_words_one : (list lent : List ℕ) {exit exit' : List ℕ} → exit ≡ bytes_after list lent
     → exit' ≡ bytes_after list lent → exit ≡ exit'

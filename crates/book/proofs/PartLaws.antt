@@ -2,6 +2,8 @@
 -- Assumes nothing.
 use Rattle.std.proofs.Common.{◌≡◌, ℕ, ◌+◌, ◌-◌, ◌*◌, ◌/◌, ◌%◌, ◌<◌, ◌≤◌, ◌⊎◌, List, length, get_or, drop, sym, ap}
 use Rattle.std.proofs.Common.{◌∙◌, inl, inr, ⊎_elim, arith, length-drop, length-take}
+use Rattle.std.specs.Prelude.{◌≢◌}
+use Rattle.laws.specs.Given.{Given}
 use mathlib.Core.Logic.Dec
 use mathlib.Core.Logic.{dite}
 use native.Mathlib.Decide.{dec_le}
@@ -20,6 +22,12 @@ has_or_not b i =
     ⊎_elim
     (λ sound. dite (Dec.and (dec_le 1 i) (dec_le i (signals_of b))) (λ h. inl (sound, h)) (λ n. inr (λ has. n has.1)))
     (λ unsound. inr (λ has. unsound has.0)) (sound_or_not b)
+
+-- a byte that is not 0 is given of a signal that is there
+pub part_at_has : {b : List ℕ} {i p : ℕ} → Given (HasSignal b i) (λ n. n ≡ part_start i) p → p ≢ 0
+    → HasSignal b i × (p ≡ part_start i)
+part_at_has {b} {i} given some =
+    ⊎_elim (λ has. (has, given.inside has)) (λ lacks. absurd (some (given.outside lacks))) (has_or_not b i)
 
 pub part_inside : (b : List ℕ) (i : ℕ) → HasSignal b i → part_start i + part_size ≤ length b
 part_inside b i has =

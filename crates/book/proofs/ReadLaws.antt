@@ -3,17 +3,20 @@
 use Rattle.std.proofs.Common.{◌≡◌, ℕ, ◌*◌, ◌<◌, ◌≤◌, List, [], ◌∷◌, ◌++◌, length, take, drop, refl, ap, ◌∙◌, inl, inr}
 use Rattle.std.proofs.Common.{⊎_elim, lt_of_not-le, arith, take_at}
 use mathlib.Core.Logic.{dite}
-use native.Mathlib.Decide.{ℕ_discrete, dec_le}
+use native.Mathlib.Decide.{dec_le}
 use Rattle.laws.specs.Rows.{Row, Hold}
 use Rattle.laws.proofs.RowLaws.{hold_join, hold_front, zero_holds, holds_zero, pass, refused_front, same_front}
 use Rattle.terms.specs.declared.Settings.{Settings}
-use Rattle.terms.specs.declared.Answer.TheVariants.{Room}
+use Rattle.std.specs.Prelude.{Option, None, Some, Result, Ok, Err, IfOk}
+use Rattle.terms.specs.declared.Refusal.{Refusal}
+use Rattle.terms.specs.declared.Refusal.TheVariants.{Room}
 use Rattle.terms.specs.Lists.{signal_size}
-use Rattle.terms.specs.Answers.{number_of, place_of, Answers, room_row}
+use Rattle.terms.specs.Answers.{Answer, number_of, place_of, Answers, room_row}
+use Rattle.terms.proofs.AnswersLaws.{refusal_numbered}
 use Rattle.book.specs.declared.Reading.{Reading}
-use Rattle.book.specs.Reading.{signals_of, book_rows, reading_rows, settings_in, five_zeros, list_in}
-use Rattle.book.specs.Outcomes.{ReadOutcome, SettingsOutcome}
-use Rattle.book.proofs.SoundLaws.{sound_count, book_numbered, reading_numbered, judged_sound}
+use Rattle.book.specs.Reading.{signals_of, book_rows, reading_rows, settings_in, list_in}
+use Rattle.book.specs.Outcomes.{answer_of, ReadOutcome, SettingsOutcome}
+use Rattle.book.proofs.SoundLaws.{sound_count, reading_numbered, judged_sound}
 use Rattle.book.proofs.SoundLaws.{book_answer, sound_or_not}
 use Rattle.book.proofs.AcceptedLaws.{list_length}
 
@@ -26,69 +29,66 @@ signals b p = p ≡ signals_of b
 
 -- ---- each way out
 
-module _ {b lent : List ℕ} {r : Reading} where
-  pub read_refused : Answers (book_rows b) (signals b) r.answer → (number_of r.answer ≡ 0 → ⊥)
-      → r.settings ≡ five_zeros → ReadOutcome b lent r lent
-  read_refused f n zeros =
+module _ {b lent : List ℕ} where
+  pub read_refused : {e : Refusal} → Answers (book_rows b) (signals b) (Err e) → ReadOutcome b lent (Err e) lent
+  read_refused {e} f =
       record {
-        answer = refused_front (list_room b lent) (signals b) _ _ (book_rows b) (signals b) (book_numbered b) n f;
-        done = λ z. absurd (n z);
-        refused = λ k. (zeros, refl);
+        answer =
+            refused_front (list_room b lent) (signals b) _ _ (book_rows b) (signals b) (refusal_numbered e) f;
+        done = tt;
+        refused = refl;
       }
 
-  pub read_short : Hold (book_rows b) → length lent < signal_size * signals_of b
-      → r.answer ≡ Room (signal_size * signals_of b) → r.settings ≡ five_zeros → ReadOutcome b lent r lent
-  read_short sound short is zeros =
-      let number = ap number_of is in
-      let place = ap place_of is in
+  pub read_short : {n : ℕ} → Hold (book_rows b) → length lent < n → n ≡ signal_size * signals_of b
+      → ReadOutcome b lent (Err (Room n)) lent
+  read_short sound short is =
       record {
-        answer = pass (list_room b lent) (signals b) _ _ (book_rows b) sound (inl ((λ h. omega arith), number, place));
-        done = λ z. absurd (omega arith);
-        refused = λ k. (zeros, refl);
+        answer = pass (list_room b lent) (signals b) _ _ (book_rows b) sound (inl ((λ h. omega arith), refl, is));
+        done = tt;
+        refused = refl;
       }
 
-  pub read_done : {exit : List ℕ} → Hold (book_rows b) → signal_size * signals_of b ≤ length lent
-      → number_of r.answer ≡ 0 → place_of r.answer ≡ signals_of b → r.settings ≡ settings_in b
-      → exit ≡ list_in b ++ drop (signal_size * signals_of b) lent → ReadOutcome b lent r exit
-  read_done sound enough number place settings list =
+  pub read_done : {x : Reading} {exit : List ℕ} → Hold (book_rows b) → signal_size * signals_of b ≤ length lent
+      → x.signals ≡ signals_of b → x.settings ≡ settings_in b
+      → exit ≡ list_in b ++ drop (signal_size * signals_of b) lent → ReadOutcome b lent (Ok x) exit
+  read_done sound enough signals_are settings list =
       record {
-        answer = pass (list_room b lent) (signals b) _ _ (book_rows b) sound (inr (enough, (number, place)));
-        done = λ z. (settings, list);
-        refused = λ n. absurd (n number);
+        answer = pass (list_room b lent) (signals b) _ _ (book_rows b) sound (inr (enough, (refl, signals_are)));
+        done = (settings, list);
+        refused = tt;
       }
 
-pub read_exists : (b lent : List ℕ) → (r : Reading) × (exit : List ℕ) × ReadOutcome b lent r exit
-read_exists b lent =
-    let (a, f) = book_answer b in
-    dite (ℕ_discrete (number_of a) 0)
-    (λ z.
-    let (sound, place) = judged_sound b a f z in
-    dite (dec_le (signal_size * signals_of b) (length lent))
-    (λ enough. (record { answer = a; settings = settings_in b }, _, read_done sound enough z place refl refl))
-    (λ short.
-    let r : Reading = record { answer = Room (signal_size * signals_of b); settings = five_zeros } in
-    (r, lent, read_short sound (lt_of_not-le short) refl refl)))
-    (λ n. (record { answer = a; settings = five_zeros }, lent, read_refused f n refl))
+pub read_exists : (b lent : List ℕ) → (r : Result Reading Refusal) × (exit : List ℕ) × ReadOutcome b lent r exit
+read_exists b lent = let (a, f) = book_answer b in judged a f
+  where
+    judged : (a : Answer) → Answers (book_rows b) (signals b) a
+        → (r : Result Reading Refusal) × (exit : List ℕ) × ReadOutcome b lent r exit
+    judged (Err e) f = (Err e, lent, read_refused f)
+    judged (Ok m) f =
+        let (sound, place) = judged_sound b (Ok m) f refl in
+        dite (dec_le (signal_size * signals_of b) (length lent))
+        (λ enough. (Ok (record { settings = settings_in b; signals = m }), _, read_done sound enough place refl refl))
+        (λ short. (Err (Room _), lent, read_short sound (lt_of_not-le short) refl))
 
-pub settings_exists : (b : List ℕ) → (s : Settings) × SettingsOutcome b s
+pub settings_exists : (b : List ℕ) → (s : Option Settings) × SettingsOutcome b s
 settings_exists b =
-    ⊎_elim (λ h. (settings_in b, record { sound = λ k. refl; unsound = λ n. absurd (n h) }))
-    (λ n. (five_zeros, record { sound = λ h. absurd (n h); unsound = λ k. refl })) (sound_or_not b)
+    ⊎_elim (λ h. (Some (settings_in b), record { sound = λ k. refl; unsound = λ n. absurd (n h) }))
+    (λ n. (None, record { sound = λ h. absurd (n h); unsound = λ k. refl })) (sound_or_not b)
 
 -- ---- what a caller learns
 
-pub record ReadGives (b : List ℕ) (r : Reading) (exit : List ℕ) : Type 0 where
+pub record ReadGives (b : List ℕ) (x : Reading) (exit : List ℕ) : Type 0 where
   pub sound : Hold (book_rows b)
-  pub signals : place_of r.answer ≡ signals_of b
-  pub settings : r.settings ≡ settings_in b
+  pub signals : x.signals ≡ signals_of b
+  pub settings : x.settings ≡ settings_in b
   pub words : take (signal_size * signals_of b) exit ≡ list_in b
 
-module _ {b lent exit : List ℕ} {r : Reading} (read : ReadOutcome b lent r exit) where
-  pub read_gives : number_of r.answer ≡ 0 → ReadGives b r exit
-  read_gives z =
+module _ {b lent exit : List ℕ} where
+  pub read_gives : {x : Reading} → ReadOutcome b lent (Ok x) exit → ReadGives b x exit
+  read_gives read =
       let numbered = reading_numbered b (length lent) in
-      let (rows, place) = zero_holds (signals b) _ _ (reading_rows b (length lent)) numbered read.answer z in
-      let given = read.done z in
+      let (rows, place) = zero_holds (signals b) _ _ (reading_rows b (length lent)) numbered read.answer refl in
+      let given = read.done in
       record {
         sound = hold_front (book_rows b) (list_room b lent) rows;
         signals = place;
@@ -97,15 +97,24 @@ module _ {b lent exit : List ℕ} {r : Reading} (read : ReadOutcome b lent r exi
       }
 
   -- a sound book is read where there is room
-  pub sound_read : Hold (book_rows b) → signal_size * signals_of b ≤ length lent
-      → (number_of r.answer ≡ 0) × (place_of r.answer ≡ signals_of b)
-  sound_read sound enough =
+  pub sound_read : {r : Result Reading Refusal} → ReadOutcome b lent r exit → Hold (book_rows b)
+      → signal_size * signals_of b ≤ length lent → r ≡ Ok (record { settings = settings_in b; signals = signals_of b })
+  sound_read {r} read sound enough =
       let rows = hold_join (book_rows b) (list_room b lent) sound (enough, tt) in
-      holds_zero (signals b) _ _ (reading_rows b (length lent)) rows read.answer
+      let done = holds_zero (signals b) _ _ (reading_rows b (length lent)) rows read.answer in
+      known r done.0 done.1 read.done
+    where
+      known : (r : Result Reading Refusal) → number_of (answer_of r) ≡ 0 → place_of (answer_of r) ≡ signals_of b
+          → IfOk r (λ x. (x.settings ≡ settings_in b) × (exit ≡ list_in b ++ drop (signal_size * signals_of b) lent))
+          → r ≡ Ok (record { settings = settings_in b; signals = signals_of b })
+      known (Err e) zero place given = absurd (refusal_numbered e zero)
+      known (Ok x) zero place given = λ i. Ok (record { settings = given.0 i; signals = place i })
 
   -- so with room for 600 signals a refusal is one by 1 to 5, whatever is asked after
-  pub read_refuses : signal_size * 600 ≤ length lent → (number_of r.answer ≡ 0 → ⊥)
-      → (rest : List Row) (done : ℕ → Type 0) → Answers (book_rows b ++ rest) done r.answer
-  read_refuses enough refused rest done =
+  pub read_refuses : {e : Refusal} → ReadOutcome b lent (Err e) exit → signal_size * 600 ≤ length lent
+      → (rest : List Row) (done : ℕ → Type 0) → Answers (book_rows b ++ rest) done (Err e)
+  read_refuses {e} read enough rest done =
       same_front (list_room b lent) (signals b) _ _ (book_rows b) rest done
-      (λ sound. refused (sound_read sound (omega (arith, (sound_count b sound).0))).0) read.answer
+      (λ sound.
+      let done = sound_read read sound (omega (arith, (sound_count b sound).0)) in
+      refusal_numbered e (ap (λ r. number_of (answer_of r)) done)) read.answer

@@ -2,23 +2,28 @@
 -- answer, so that it is sound or is not.
 -- Assumes nothing.
 use Rattle.std.proofs.Common.{◌≡◌, ℕ, zero, suc, ◌+◌, ◌-◌, ◌*◌, ◌%◌, ◌<◌, ◌≤◌, ◌⊎◌, List, [], ◌∷◌, length, sym, refl}
-use Rattle.std.proofs.Common.{inl, inr, ⊎_elim, arith, lit≤}
+use Rattle.std.proofs.Common.{◌∙◌, inl, inr, ⊎_elim, arith, lit≤}
 use mathlib.Core.Logic.Dec
 use mathlib.Core.Logic.{dite}
 use native.Mathlib.Decide.{ℕ_discrete, dec_le, dec_lt, map_dec}
 use Rattle.laws.specs.Rows.{Hold}
-use Rattle.laws.proofs.RowLaws.{numbered_join, single_join, Numbered, Single, zero_holds, not_zero_fails}
-use Rattle.laws.proofs.LowestLaws.{lowest_one}
+use Rattle.laws.proofs.RowLaws.{numbered_join, single_join, Numbered, Single, zero_holds}
+use Rattle.laws.proofs.LowestLaws.{lowest_one, lowest_not_each}
 use Rattle.laws.proofs.DecidedLaws.{Decided, first_row, decided_hold, decided_row, lowest_or_each}
-use Rattle.terms.specs.declared.Answer.{Answer}
-use Rattle.terms.specs.declared.Answer.TheVariants.{Length, Check, Kind, Count, Zero}
+use Rattle.std.specs.Prelude.{Result, Ok, Err, IsErrAnd, MatchResult, Bool, true, false}
+use Rattle.laws.specs.Says.{Says}
+use Rattle.terms.specs.declared.Refusal.{Refusal}
+use Rattle.terms.specs.declared.Refusal.TheVariants.{Length, Check, Kind, Count, Zero}
 use Rattle.terms.specs.Lists.{signal_size}
-use Rattle.terms.specs.Answers.{number_of, place_of, Answers, room_row}
+use Rattle.terms.specs.Answers.{Answer, number_of, place_of, Answers, room_row}
 use Rattle.terms.proofs.AnswersLaws.{Answerable, answer_exists}
+use Rattle.book.specs.declared.reader.Book.{Book}
+use Rattle.book.specs.declared.reader.Block.{Block}
+use Rattle.book.specs.Private.{Tested, EachRight}
 use Rattle.book.specs.Blocks.{blocks_for}
 use Rattle.book.specs.Reading.{blocks_in, in_block, signals_of, used_in, EachBlock, FirstBlock, book_rows, reading_rows}
 use Rattle.book.specs.Reading.{LengthRight, CheckRight, KindRight, CountRight, ZerosRight}
-use Rattle.book.proofs.BlockLaws.{numbered_each, lowest_numbered}
+use Rattle.book.proofs.BlockLaws.{each_numbered, numbered_each, lowest_numbered}
 
 -- ---- what the rows say
 
@@ -65,12 +70,46 @@ module _ (b : List ℕ) (lent : ℕ) where
       single_join (book_rows b) (room_row (signal_size * signals_of b) lent ∷ []) (book_single b)
       ((λ p q d e. omega arith), tt)
 
-module _ (b : List ℕ) (a : Answer) (f : Answers (book_rows b) (λ p. p ≡ signals_of b) a) where
-  pub judged_sound : number_of a ≡ 0 → Hold (book_rows b) × (place_of a ≡ signals_of b)
-  judged_sound = zero_holds (λ p. p ≡ signals_of b) (number_of a) (place_of a) (book_rows b) (book_numbered b) f
+pub judged_sound : (b : List ℕ) (a : Answer) → Answers (book_rows b) (λ p. p ≡ signals_of b) a → number_of a ≡ 0
+    → Hold (book_rows b) × (place_of a ≡ signals_of b)
+judged_sound b a = zero_holds (λ p. p ≡ signals_of b) (number_of a) (place_of a) (book_rows b) (book_numbered b)
 
-  pub judged_unsound : (number_of a ≡ 0 → ⊥) → Hold (book_rows b) → ⊥
-  judged_unsound = not_zero_fails (λ p. p ≡ signals_of b) (number_of a) (place_of a) (book_rows b) f
+-- block k without the fact, and every one before it with it
+first_block : (b : List ℕ) (P : ℕ → Type 0) (k : ℕ) → k < blocks_in b → (P k → ⊥) → ((j : ℕ) → j < k → P j)
+    → FirstBlock b P k
+first_block b P k within fails before =
+    let same : k + 1 - 1 ≡ k = omega arith in
+    record {
+      within = omega arith;
+      fails = λ p. fails (rw same at p);
+      before = λ j low high. before (j - 1) (omega arith);
+    }
+
+-- a test that says a fact of each block, and a refusal that is made of what it comes to
+module _ {book : Book} {b : List ℕ} (same : book.bytes.now ≡ b) (Right : List ℕ → ℕ → Type 0)
+    {Test : Block → Bool → Type 0}
+    (says : (x : Block) (flag : Bool) → Test x flag → Says (Right x.book.bytes.now x.number) flag)
+    (Made : ℕ → Refusal → Type 0) where
+  of_block : (k : ℕ) (flag : Bool) → Tested book Test k flag → (k < blocks_in b) × Says (Right b k) flag
+  of_block k flag (x, is, number, test) =
+      let here : x.book.bytes.now ≡ b = (λ i. (is i).bytes.now) ∙ same in
+      rw (← here, ← number) (x.in_book, says x flag test)
+
+  -- past the test each block has the fact
+  pub passed : {r : Result (Unit {0}) ℕ} {m : Result (Unit {0}) Refusal} {u : Unit {0}} → EachRight book Test r
+      → MatchResult r (λ x. m ≡ Ok x) (λ k. IsErrAnd m (Made k)) → m ≡ Ok u → EachBlock b (Right b)
+  passed {r = Ok u} found made is = each_numbered _ (Right b) (λ k h. (of_block k true (found.each k (rw same h))).1)
+  passed {r = Err k} found made is = absurd (rw is at made)
+
+  -- a refusal is made of the first block without it
+  pub refused : {r : Result (Unit {0}) ℕ} {m : Result (Unit {0}) Refusal} {e : Refusal} → EachRight book Test r
+      → MatchResult r (λ x. m ≡ Ok x) (λ k. IsErrAnd m (Made k)) → m ≡ Err e
+      → (k : ℕ) × (EachBlock b (Right b) → ⊥) × FirstBlock b (Right b) k × Made k e
+  refused {r = Ok u} found made is = cc (made, is)
+  refused {r = Err k} found made is =
+      let (within, fails) = of_block k false found.first.0 in
+      let first = first_block b (Right b) k within fails (λ j h. (of_block j true (found.first.1 j h)).1) in
+      (k, lowest_not_each _ _ (k + 1) first, first, rw is at made)
 
 -- ---- every book has an answer
 
@@ -113,10 +152,13 @@ module _ (b : List ℕ) where
 
   pub book_answerable : Answerable (book_rows b)
   book_answerable = (
-    (λ p e. (Length, refl, sym e)),
+    (λ p e. (Err Length, refl, sym e)),
     (
-      (λ p f. (Check p, refl, refl)),
-      ((λ p f. (Kind p, refl, refl)), ((λ p e. (Count, refl, sym e)), ((λ p f. (Zero p, refl, refl)), tt))),
+      (λ p f. (Err (Check p), refl, refl)),
+      (
+        (λ p f. (Err (Kind p), refl, refl)),
+        ((λ p e. (Err Count, refl, sym e)), ((λ p f. (Err (Zero p), refl, refl)), tt)),
+      ),
     ),
   )
 

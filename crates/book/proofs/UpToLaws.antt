@@ -1,17 +1,18 @@
 -- Laws of runs by position: the list of the first values of a function, such a list written over what was lent, and the
 -- sum of which a check is made.
 -- Assumes nothing.
-use Rattle.std.proofs.Common.{◌≡◌, ℕ, zero, suc, ◌+◌, ◌/◌, ◌%◌, ◌^◌, ◌<◌, List, [], ◌∷◌, ◌++◌, length, get_or, drop}
-use Rattle.std.proofs.Common.{set, sym, refl, ap, ◌∙◌, not-suc-le-zero, add-one, arith, length-append, length-set}
+use Rattle.std.proofs.Common.{◌≡◌, ℕ, zero, suc, ◌+◌, ◌%◌, ◌^◌, ◌<◌, List, [], ◌∷◌, ◌++◌, length, get_or, drop}
+use Rattle.std.proofs.Common.{◌≤◌, set, sym, refl, ap, ◌∙◌, not-suc-le-zero, add-zero, add-one, arith}
+use Rattle.std.proofs.Common.{length-append, length-set, length-drop, append-nil, append_assoc}
+use Rattle.std.proofs.Math.Nat.{add-suc}
+use Rattle.std.proofs.lemmas.List.{take_at, drop_at, drop-drop}
 use Rattle.std.proofs.Common.{drop-cons, ext_get_or, below_more}
-use mathlib.Core.Logic.{dite}
-use native.Mathlib.Decide.{ℕ_discrete}
 use Rattle.std.proofs.Math.ListN.{get_or-append}
 use Rattle.std.proofs.Math.Seq.{set_at, get_or_at, append_snoc}
 use Rattle.laws.specs.Sums.{sum}
-use Rattle.laws.proofs.SumLaws.{sum_none, sum_more, sum_ext}
+use Rattle.laws.proofs.SumLaws.{sum_more, sum_ext}
 use Rattle.book.specs.Words.{up_to, check_of}
-use Rattle.book.specs.Private.{CheckPast}
+use borrow.Rule.Slice.PartMut.{put_mid}
 
 pub up_to_length : (f : ℕ → ℕ) (n : ℕ) → length (up_to f n) ≡ n
 unfolding up_to
@@ -52,6 +53,27 @@ over_one {f} {lent} {room} n m x o h is e =
       as_long = length-set room n x ∙ o.as_long;
     }
 
+-- a run after another
+pub up_to_join : (f g : ℕ → ℕ) (n m : ℕ) → ((i : ℕ) → i < m → g i ≡ f (n + i))
+    → up_to f n ++ up_to g m ≡ up_to f (n + m)
+unfolding up_to
+up_to_join f g n zero same = rw (add-zero, append-nil) refl
+up_to_join f g n (suc m) same =
+    rw (add-suc, ← append_assoc, up_to_join f g n m (λ i h. same i (omega arith)), same m (omega arith)) refl
+
+-- written at its end it makes it as much longer
+pub over_more : {f g : ℕ → ℕ} {lent room part : List ℕ} (n m k : ℕ) → Over f lent room n → k ≡ m → n + m ≤ length lent
+    → part ≡ up_to g m → ((i : ℕ) → i < m → g i ≡ f (n + i)) → Over f lent (put_mid n k room part) (n + m)
+over_more {f} {g} {lent} {room} {part} n m k o e fits is same =
+    let front = up_to_length f n in
+    let written : put_mid n k room part ≡ up_to f (n + m) ++ drop (n + m) lent =
+    rw (o.written, take_at _ (drop n lent) n front, drop_at _ (drop n lent) n front, drop-drop, e, is)
+    (rw (← append_assoc, up_to_join f g n m same) refl) in
+    let parts = length-append (up_to f (n + m)) (drop (n + m) lent) in
+    let as_long : length (up_to f (n + m) ++ drop (n + m) lent) ≡ length lent =
+    omega (arith, parts, up_to_length f (n + m), length-drop (n + m) lent) in
+    record { written = written; as_long = rw written as_long }
+
 -- ---- the sum of which a check is made
 
 pub check_same : (f g : ℕ → ℕ) → ((w : ℕ) → w < 127 → f w ≡ g w) → check_of f ≡ check_of g
@@ -62,15 +84,3 @@ check_same f g same = ap (λ (x : ℕ). (x + 1) % 2 ^ 32) (sum_ext f g 127 same)
 pub sum_kept : (f : ℕ → ℕ) (n s x : ℕ) → s ≡ (sum f n + 1) % 2 ^ 32 → x ≡ f n
     → (s + x) % 2 ^ 32 ≡ (sum f (n + 1) + 1) % 2 ^ 32
 sum_kept f n s x before here = omega (arith, sum_more f n)
-
--- the same over the words of all blocks
-pub sum_past_word : (f : ℕ → ℕ → ℕ) (p s x r : ℕ) → s ≡ (sum (f (p / 128)) (p % 128) + 1) % 2 ^ 32
-    → (p % 128 < 127 → x ≡ f (p / 128) (p % 128)) → CheckPast s (p % 128) x r
-    → r ≡ (sum (f ((p + 1) / 128)) ((p + 1) % 128) + 1) % 2 ^ 32
-sum_past_word f p s x r before here past =
-    dite (ℕ_discrete (p % 128) 127)
-    (λ last. let first : (p + 1) % 128 ≡ 0 = omega arith in past.last last ∙ sym (simp (first, sum_none)))
-    (λ other.
-    let block : (p + 1) / 128 ≡ p / 128 = omega arith in
-    let word : (p + 1) % 128 ≡ p % 128 + 1 = omega arith in
-    rw (block, word) (past.other other ∙ sum_kept (f (p / 128)) (p % 128) s x before (here (omega arith))))

@@ -6,10 +6,10 @@ use mathlib.Core.Logic.{dite}
 use native.Mathlib.Decide.{dec_le}
 use Rattle.laws.proofs.RowLaws.{zero_holds}
 use Rattle.terms.specs.declared.Settings.{Settings}
-use Rattle.terms.specs.declared.Answer.{Answer}
-use Rattle.terms.specs.declared.Answer.TheVariants.{Done, Count, Room}
+use Rattle.std.specs.Prelude.{Ok, Err}
+use Rattle.terms.specs.declared.Refusal.TheVariants.{Count, Room}
 use Rattle.terms.specs.Lists.{count, CountInRange}
-use Rattle.terms.specs.Answers.{number_of, place_of}
+use Rattle.terms.specs.Answers.{Answer, number_of, place_of}
 use Rattle.terms.proofs.RangesDecided.{count_or_not}
 use Rattle.book.specs.Blocks.{blocks_for, book_of, writing_rows}
 use Rattle.book.specs.Outcomes.{WriteOutcome}
@@ -18,11 +18,12 @@ use Rattle.book.proofs.WrittenLaws.{written_length}
 -- ---- each way out
 
 module _ (s : Settings) (l lent : List ℕ) where
-  pub write_refused : (CountInRange l → ⊥) → WriteOutcome s l lent Count lent
+  pub write_refused : (CountInRange l → ⊥) → WriteOutcome s l lent (Err Count) lent
   write_refused n = record { answer = inl (n, refl, refl); done = λ z. absurd (omega arith); refused = λ k. refl }
 
   module _ (right : CountInRange l) where
-    pub write_short : (n : ℕ) → n ≡ 512 * blocks_for (count l) → length lent < n → WriteOutcome s l lent (Room n) lent
+    pub write_short : (n : ℕ) → n ≡ 512 * blocks_for (count l) → length lent < n
+        → WriteOutcome s l lent (Err (Room n)) lent
     write_short n e short =
         record {
           answer = inr (right, inl ((λ enough. omega arith), refl, e));
@@ -31,7 +32,7 @@ module _ (s : Settings) (l lent : List ℕ) where
         }
 
     pub write_done : {exit : List ℕ} (n : ℕ) → n ≡ blocks_for (count l) → 512 * n ≤ length lent
-        → exit ≡ book_of s l ++ drop (512 * blocks_for (count l)) lent → WriteOutcome s l lent (Done n) exit
+        → exit ≡ book_of s l ++ drop (512 * blocks_for (count l)) lent → WriteOutcome s l lent (Ok n) exit
     write_done n e enough book =
         record { answer = inr (right, inr (omega arith, (refl, e))); done = λ z. book; refused = λ k. absurd (k refl) }
 
@@ -40,9 +41,9 @@ write_exists s l lent =
     dite (count_or_not l)
     (λ right.
     dite (dec_le (512 * blocks_for (count l)) (length lent))
-    (λ enough. (Done _, _, write_done s l lent right _ refl enough refl))
-    (λ short. (Room _, lent, write_short s l lent right _ refl (lt_of_not-le short))))
-    (λ n. (Count, lent, write_refused s l lent n))
+    (λ enough. (Ok _, _, write_done s l lent right _ refl enough refl))
+    (λ short. (Err (Room _), lent, write_short s l lent right _ refl (lt_of_not-le short))))
+    (λ n. (Err Count, lent, write_refused s l lent n))
 
 -- ---- what a caller learns
 

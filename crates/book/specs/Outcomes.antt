@@ -1,27 +1,33 @@
 -- What each public routine promises of its outcome, for all inputs: these records are the contracts.
 use Rattle.std.specs.Prelude.{◌≡◌, ℕ, ◌+◌, ◌*◌, List, [], ◌++◌, length, take, drop, ◌≢◌}
+use Rattle.std.specs.Prelude.{Option, None, Some, Result, Ok, Err, IfOk, OnErr}
 use Rattle.laws.specs.Rows.{Hold}
 use Rattle.terms.specs.declared.Settings.{Settings}
-use Rattle.terms.specs.declared.Answer.{Answer}
+use Rattle.terms.specs.declared.Refusal.{Refusal}
 use Rattle.terms.specs.Lists.{signal_size, count}
-use Rattle.terms.specs.Answers.{number_of, Answers}
+use Rattle.terms.specs.Answers.{Answer, number_of, Answers}
 use Rattle.book.specs.declared.Reading.{Reading}
 use Rattle.book.specs.Blocks.{blocks_for, book_of, writing_rows}
-use Rattle.book.specs.Reading.{signals_of, book_rows, reading_rows, settings_in, five_zeros, list_in}
+use Rattle.book.specs.Reading.{signals_of, book_rows, reading_rows, settings_in, list_in}
 use Rattle.book.specs.Part.{HasSignal, part_size, part_start}
 
+-- the answer of a reading: it leaves the settings out
+abbrev pub answer_of : Result Reading Refusal → Answer
+answer_of (Ok r) = Ok r.signals
+answer_of (Err e) = Err e
+
 -- reading a book into a lent list: the answer, the settings, and the list at exit
-pub record ReadOutcome (book lent : List ℕ) (r : Reading) (exit : List ℕ) : Type 0 where
-  pub answer : Answers (reading_rows book (length lent)) (λ p. p ≡ signals_of book) r.answer
+pub record ReadOutcome (book lent : List ℕ) (r : Result Reading Refusal) (exit : List ℕ) : Type 0 where
+  pub answer : Answers (reading_rows book (length lent)) (λ p. p ≡ signals_of book) (answer_of r)
   pub done :
-      number_of r.answer ≡ 0 →
-      (r.settings ≡ settings_in book) × (exit ≡ list_in book ++ drop (signal_size * signals_of book) lent)
-  pub refused : (number_of r.answer ≢ 0) → (r.settings ≡ five_zeros) × (exit ≡ lent)
+      IfOk r (λ x.
+      (x.settings ≡ settings_in book) × (exit ≡ list_in book ++ drop (signal_size * signals_of book) lent))
+  pub refused : OnErr r (exit ≡ lent)
 
 -- the settings of a sound book
-pub record SettingsOutcome (book : List ℕ) (r : Settings) : Type 0 where
-  pub sound : Hold (book_rows book) → r ≡ settings_in book
-  pub unsound : (Hold (book_rows book) → ⊥) → r ≡ five_zeros
+pub record SettingsOutcome (book : List ℕ) (r : Option Settings) : Type 0 where
+  pub sound : Hold (book_rows book) → r ≡ Some (settings_in book)
+  pub unsound : (Hold (book_rows book) → ⊥) → r ≡ None
 
 -- writing settings and a list into lent room: the answer, and the room at exit
 pub record WriteOutcome (s : Settings) (list lent : List ℕ) (r : Answer) (exit : List ℕ) : Type 0 where

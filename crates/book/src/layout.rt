@@ -14,14 +14,14 @@ pub(crate) const SECTION_WORDS: usize = SIGNAL_WORDS * PER_BLOCK;
 // The bytes of a signal.
 pub(crate) const PART_BYTES: usize = 4 * SIGNAL_WORDS;
 
-// 1 for the settings block, 2 for signal blocks.
+// The kind as the word of the book that it is: 1 for the settings block, 2 for signal blocks.
 pub(crate) fn kind_of(k: usize) -> u32
     ensures { result ≡ kind_of k }
 {
-    if k == 0 {
-        return 1;
+    match k {
+        0 => 1,
+        _ => 2,
     }
-    2
 }
 
 // The signals that signal block k of a list of m holds.
@@ -29,14 +29,7 @@ pub(crate) fn signals_in(m: usize, k: usize) -> usize
     requires { (0 < k) × (k < 2 ^ 56) }
     ensures { result ≡ signals_in m k }
 {
-    let before = PER_BLOCK * (k - 1);
-    if m <= before {
-        return 0;
-    }
-    if m - before < PER_BLOCK {
-        return m - before;
-    }
-    PER_BLOCK
+    m.saturating_sub(PER_BLOCK * (k - 1)).min(PER_BLOCK)
 }
 
 // The blocks of a book of m signals.
@@ -44,7 +37,7 @@ pub(crate) fn blocks_for(m: usize) -> usize
     requires { m < 2 ^ 32 }
     ensures { result ≡ blocks_for m }
 {
-    1 + (m + (PER_BLOCK - 1)) / PER_BLOCK
+    1 + m.div_ceil(PER_BLOCK)
 }
 
 // Where signal i starts in a book that has it.

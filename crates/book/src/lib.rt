@@ -7,108 +7,80 @@ mod reader;
 mod words;
 mod writer;
 
-ghost use Rattle.std.specs.Prelude.{◌≡◌};
+ghost use Rattle.std.specs.Prelude.{◌≡◌, ◌≢◌, unwrap_or};
 ghost use Rattle.laws.specs.Given.{Given};
-ghost use Rattle.book.specs.Reading.{five_zeros};
 ghost use Rattle.book.specs.Part.{HasSignal, part_start};
 ghost use Rattle.book.specs.Words.{bytes_after};
 ghost use Rattle.book.specs.Outcomes.{ReadOutcome, SettingsOutcome, WriteOutcome, PartOutcome};
 
-use layout::{PART_BYTES, blocks_for, part_start};
-use reader::{copy_list, has_signal, judge, settings_in};
-use terms::{Answer, SIGNAL_WORDS, Settings};
+use layout::{PART_BYTES, part_start};
+use reader::Book;
+use terms::{Answer, Refusal, SIGNAL_WORDS, Settings};
 use words::put_word;
-use writer::fill;
+use writer::NewBook;
 
-#[derive(Clone, Copy)]
+// What reading a sound book gives beside its list: the settings, and how many signals there are.
+#[derive(Clone, Copy, Debug, PartialEq, Eq)]
 pub struct Reading {
-    pub answer: Answer,
     pub settings: Settings,
-}
-
-// A refusal gives five zeros.
-fn no_settings() -> Settings
-    ensures { result ≡ five_zeros }
-{
-    Settings {
-        cycle: 0,
-        slot: 0,
-        slots: 0,
-        packing: 0,
-        payload: 0,
-    }
+    pub signals: u32,
 }
 
 // The settings of a sound book, and its signals into the first words of the lent list.
-pub fn read(book: &[u8], list: &mut [u32]) -> Reading
+pub fn read(book: &[u8], list: &mut [u32]) -> Result<Reading, Refusal>
     ensures { ReadOutcome book.now list.old result list.new }
 {
-    let answer = judge(book);
-    if terms::number(answer) != 0 {
-        return Reading {
-            answer,
-            settings: no_settings(),
-        };
-    }
-    let count = SIGNAL_WORDS * (terms::place(answer) as usize);
+    let book = Book::sound(book)?;
+    let signals = book.signals();
+    let count = SIGNAL_WORDS * signals as usize;
     if list.len() < count {
-        return Reading {
-            answer: Answer::Room(count as u32),
-            settings: no_settings(),
-        };
+        return Err(Refusal::Room(count as u32));
     }
-    copy_list(book, list, count);
-    Reading {
-        answer,
-        settings: settings_in(book),
-    }
+    book.copy_list(&mut list[..count]);
+    Ok(Reading {
+        settings: book.settings(),
+        signals,
+    })
 }
 
-// The settings of a sound book; of any other five zeros.
-pub fn settings_of(book: &[u8]) -> Settings
+// The settings of a sound book.
+pub fn settings_of(book: &[u8]) -> Option<Settings>
     ensures { SettingsOutcome book.now result }
 {
-    if terms::number(judge(book)) != 0 {
-        return no_settings();
-    }
-    settings_in(book)
+    Book::sound(book).ok().map(|book| book.settings())
 }
 
 // The book of the settings and the list into the first bytes of the lent room.
 pub fn write(s: Settings, list: &[u32], room: &mut [u8]) -> Answer
     ensures { WriteOutcome s list.now room.old result room.new }
 {
-    if !terms::count_in_range(list) {
-        return Answer::Count;
-    }
-    let blocks = blocks_for(terms::count(list));
+    let book = NewBook::of(s, list).ok_or(Refusal::Count)?;
+    let blocks = book.blocks();
     let bytes = 512 * blocks;
-    if room.len() < bytes {
-        return Answer::Room(bytes as u32);
+    if room.len() < bytes as usize {
+        return Err(Refusal::Room(bytes));
     }
-    fill(s, list, room, blocks);
-    Answer::Done(blocks as u32)
+    book.fill(room);
+    Ok(blocks)
 }
 
-// The twenty bytes of signal i where they stand in a sound book; else an empty part at byte 0.
+// The twenty bytes of signal i where they stand in a sound book; else, as 01 says, an empty part at byte 0.
 pub fn part(book: &[u8], i: u32) -> &[u8]
     ensures { PartOutcome book.now book.entry.ref_ptr i result.now result.ref_ptr }
 {
-    if !has_signal(book, i) {
-        return &book[0..0];
+    match part_at(book, i) {
+        Some(at) => &book[at..at + PART_BYTES],
+        None => &book[0..0],
     }
-    let at = part_start(i);
-    &book[at..at + PART_BYTES]
 }
 
-// The byte of the book at which the part for signal i starts, or 0.
-pub fn part_at(book: &[u8], i: u32) -> usize
-    ensures { Given (HasSignal book.now i) (λ p. p ≡ part_start i) result }
+// The byte of a sound book at which the part for signal i starts.
+pub fn part_at(book: &[u8], i: u32) -> Option<usize>
+    ensures given { Given (HasSignal book.now i) (λ p. p ≡ part_start i) (unwrap_or result 0) }
+    ensures some { result ≢ Some 0 }
 {
-    if !has_signal(book, i) {
-        return 0;
-    }
-    part_start(i)
+    let book = Book::sound(book).ok()?;
+    (1..=book.signals()).contains(&i).then(|| part_start(i))
 }
 
 // Words as little-endian bytes into the first bytes of the lent room; nothing where the room is too short for all.
@@ -118,9 +90,7 @@ pub fn put_words(list: &[u32], room: &mut [u8])
     if room.len() / 4 < list.len() {
         return;
     }
-    let mut p: usize = 0;
-    while p < list.len() {
-        put_word(room, p, list[p]);
-        p += 1;
+    for (p, word) in list.iter().enumerate() {
+        put_word(room, p, *word);
     }
 }

@@ -1,249 +1,177 @@
 // The tests of a book's blocks, in the order of the refusals 1 to 5, and what a sound book holds; this crate's alone.
-// Promises: each test decides its fact, the block found is the first without it, and the answer is that of the rows.
-ghost use Rattle.std.specs.Prelude.{◌≡◌, ◌-◌, ◌*◌, ◌^◌, ◌<◌, ◌≤◌, ◌++◌, length, drop};
+// Promises: each test decides its fact, the block found is the first without it, and the refusal is that of the rows.
+ghost use Rattle.std.specs.Prelude.{◌≡◌, ◌-◌, ◌*◌, ◌<◌, ◌≤◌, Err, IfOk, IfErr, MatchOption, length};
 ghost use Rattle.laws.specs.Says.{Says};
-ghost use Rattle.laws.specs.Loops.{LowestOrNone};
+ghost use Rattle.laws.specs.Rows.{Hold};
 ghost use Rattle.terms.specs.Answers.{Answers};
 ghost use Rattle.book.specs.Words.{up_to, check_of};
-ghost use Rattle.book.specs.Blocks.{section_size, signals_in};
+ghost use Rattle.book.specs.Blocks.{section_size};
 ghost use Rattle.book.specs.Reading.{blocks_in, in_block, signals_of, used_in, book_rows, settings_in, list_word};
 ghost use Rattle.book.specs.Reading.{LengthRight, CheckRight, KindRight, CountRight, ZerosRight};
-ghost use Rattle.book.specs.Part.{HasSignal};
-ghost use Rattle.book.specs.Private.{Passes};
 
 use crate::layout::{SECTION_WORDS, blocks_for, kind_of, signals_in};
 use crate::words::word;
-use terms::{Answer, MOST_SIGNALS, SIGNAL_WORDS, Settings};
+use terms::{MOST_SIGNALS, Refusal, SIGNAL_WORDS, Settings};
 
-// What a block is tested for, in the order of the refusals 2 to 5.
+// A book of a right length: some blocks, whole and at most 26.
 #[derive(Clone, Copy)]
-enum Test {
-    Check,
-    Kind,
-    Count,
-    Zero,
+pub(crate) struct Book<'a> {
+    bytes: &'a [u8],
+    ghost whole: { LengthRight bytes.now },
 }
 
-// Word w of block k.
-fn in_block(book: &[u8], k: usize, w: usize) -> u32
-    requires { (k < blocks_in book.now) × (w < 128) }
-    ensures { result ≡ in_block book.now k w }
-{
-    word(book, 128 * k + w)
+// A block of a book, by its number.
+#[derive(Clone, Copy)]
+struct Block<'a> {
+    book: Book<'a>,
+    number: usize,
+    ghost in_book: { number < blocks_in book.bytes.now },
 }
 
-// The check that block k should have, added with wrapping on purpose: 01 keeps the sum to 32 bits.
-fn check_of(book: &[u8], k: usize) -> u32
-    requires { k < blocks_in book.now }
-    ensures { result ≡ check_of (in_block book.now k) }
-{
-    let mut check: u32 = 1;
-    let mut w: usize = 0;
-    while w < 127 {
-        check = std::num::wrapping_add_u32(check, in_block(book, k, w));
-        w += 1;
+impl Block<'_> {
+    // Word w of the block.
+    fn word(self, w: usize) -> u32
+        requires { w < 128 }
+        ensures { result ≡ in_block self.entry.book.bytes.now self.entry.number w }
+    {
+        word(self.book.bytes, 128 * self.number + w)
     }
-    check
-}
 
-// How many words of block k are its own.
-fn used_in(m: usize, k: usize) -> usize
-    requires { k < 2 ^ 56 }
-    ensures { result ≡ used_in m k }
-{
-    if k == 0 {
-        return 8;
-    }
-    3 + SIGNAL_WORDS * signals_in(m, k)
-}
-
-// Whether the words of block k behind its own are zero, up to the check.
-fn zeros(book: &[u8], k: usize) -> bool
-    requires { k < blocks_in book.now }
-    ensures { Says (ZerosRight book.now k) result }
-{
-    let mut w = used_in(in_block(book, 0, 7) as usize, k);
-    while w < 127 {
-        if in_block(book, k, w) != 0 {
-            return false;
+    // The check that the block should have, added with wrapping on purpose: 01 keeps the sum to 32 bits.
+    fn check(self) -> u32
+        ensures { result ≡ check_of (in_block self.entry.book.bytes.now self.entry.number) }
+    {
+        let mut check: u32 = 1;
+        for w in 0..127 {
+            check = check.wrapping_add(self.word(w));
         }
-        w += 1;
+        check
     }
-    true
-}
 
-// Whether block k has the check that it should have.
-fn check(book: &[u8], k: usize) -> bool
-    requires { k < blocks_in book.now }
-    ensures { Says (CheckRight book.now k) result }
-{
-    if in_block(book, k, 127) != check_of(book, k) {
-        return false;
-    }
-    true
-}
-
-// Whether block k has its own number and kind.
-fn number_and_kind(book: &[u8], k: usize) -> bool
-    requires { k < blocks_in book.now }
-    ensures { Says (KindRight book.now k) result }
-{
-    if in_block(book, k, 0) as usize != k {
-        return false;
-    }
-    if in_block(book, k, 1) != kind_of(k) {
-        return false;
-    }
-    true
-}
-
-// Whether the signals are at most 600 and the blocks as many as they take.
-fn block_count(book: &[u8]) -> bool
-    requires { 0 < blocks_in book.now }
-    ensures { Says (CountRight book.now 0) result }
-{
-    let m = in_block(book, 0, 7) as usize;
-    if MOST_SIGNALS < m {
-        return false;
-    }
-    if book.len() / 512 != blocks_for(m) {
-        return false;
-    }
-    true
-}
-
-// Whether signal block k has its share of the signals.
-fn share(book: &[u8], k: usize) -> bool
-    requires { (0 < k) × (k < blocks_in book.now) }
-    ensures { Says (in_block book.now k 2 ≡ signals_in (signals_of book.now) k) result }
-{
-    let m = in_block(book, 0, 7) as usize;
-    if in_block(book, k, 2) as usize != signals_in(m, k) {
-        return false;
-    }
-    true
-}
-
-// Whether block k has a right count: the settings block that of signals and blocks, a signal block its share.
-fn count(book: &[u8], k: usize) -> bool
-    requires { k < blocks_in book.now }
-    ensures { Says (CountRight book.now k) result }
-{
-    if k == 0 {
-        return block_count(book);
-    }
-    share(book, k)
-}
-
-// Whether block k passes the test.
-fn passes(book: &[u8], t: Test, k: usize) -> bool
-    requires { k < blocks_in book.now }
-    ensures { Says (Passes book.now t k) result }
-{
-    match t {
-        Test::Check => check(book, k),
-        Test::Kind => number_and_kind(book, k),
-        Test::Count => count(book, k),
-        Test::Zero => zeros(book, k),
-    }
-}
-
-// The first block that fails the test, counted from 1, or 0 where none does.
-fn first_wrong(book: &[u8], t: Test) -> u32
-    requires { LengthRight book.now }
-    ensures { LowestOrNone (blocks_in book.now) (λ i. Passes book.now t (i - 1)) result }
-{
-    let blocks = (book.len() / 512) as u32;
-    let mut i: u32 = 1;
-    while i <= blocks {
-        if !passes(book, t, (i - 1) as usize) {
-            return i;
+    // How many words of the block are its own.
+    fn used(self) -> usize
+        ensures { result ≡ used_in (signals_of self.entry.book.bytes.now) self.entry.number }
+    {
+        match self.number {
+            0 => 8,
+            k => 3 + SIGNAL_WORDS * signals_in(self.book.signals() as usize, k),
         }
-        i += 1;
     }
-    0
-}
 
-// Whether the length is some blocks, whole and at most 26.
-fn length_right(book: &[u8]) -> bool
-    ensures { Says (LengthRight book.now) result }
-{
-    if book.len() == 0 {
-        return false;
+    // Whether the block has the check that it should have.
+    fn has_check(self) -> bool
+        ensures { Says (CheckRight self.entry.book.bytes.now self.entry.number) result }
+    {
+        self.word(127) == self.check()
     }
-    if book.len() % 512 != 0 {
-        return false;
-    }
-    if 26 < book.len() / 512 {
-        return false;
-    }
-    true
-}
 
-// The answer by 1 to 5.
-pub(crate) fn judge(book: &[u8]) -> Answer
-    ensures { Answers (book_rows book.now) (λ p. p ≡ signals_of book.now) result }
-{
-    if !length_right(book) {
-        return Answer::Length;
+    // Whether the block has its own number and kind.
+    fn has_kind(self) -> bool
+        ensures { Says (KindRight self.entry.book.bytes.now self.entry.number) result }
+    {
+        self.word(0) as usize == self.number && self.word(1) == kind_of(self.number)
     }
-    let wrong_check = first_wrong(book, Test::Check);
-    if wrong_check != 0 {
-        return Answer::Check(wrong_check - 1);
-    }
-    let wrong_kind = first_wrong(book, Test::Kind);
-    if wrong_kind != 0 {
-        return Answer::Kind(wrong_kind - 1);
-    }
-    if first_wrong(book, Test::Count) != 0 {
-        return Answer::Count;
-    }
-    let wrong_zero = first_wrong(book, Test::Zero);
-    if wrong_zero != 0 {
-        return Answer::Zero(wrong_zero - 1);
-    }
-    Answer::Done(in_block(book, 0, 7))
-}
 
-// Whether the book is sound and has signal i.
-pub(crate) fn has_signal(book: &[u8], i: u32) -> bool
-    ensures { Says (HasSignal book.now i) result }
-{
-    let answer = judge(book);
-    if terms::number(answer) != 0 {
-        return false;
+    // Whether the block has a right count: the settings block that of signals and blocks, a signal block its share.
+    fn has_count(self) -> bool
+        ensures { Says (CountRight self.entry.book.bytes.now self.entry.number) result }
+    {
+        let m = self.book.signals() as usize;
+        match self.number {
+            0 => m <= MOST_SIGNALS && self.book.blocks() as usize == blocks_for(m),
+            k => self.word(2) as usize == signals_in(m, k),
+        }
     }
-    if i < 1 {
-        return false;
-    }
-    if terms::place(answer) < i {
-        return false;
-    }
-    true
-}
 
-// The five settings words of a book.
-pub(crate) fn settings_in(book: &[u8]) -> Settings
-    requires { 0 < blocks_in book.now }
-    ensures { result ≡ settings_in book.now }
-{
-    Settings {
-        cycle: in_block(book, 0, 2),
-        slot: in_block(book, 0, 3),
-        slots: in_block(book, 0, 4),
-        packing: in_block(book, 0, 5),
-        payload: in_block(book, 0, 6),
+    // Whether the words of the block behind its own are zero, up to the check.
+    fn has_zeros(self) -> bool
+        ensures { Says (ZerosRight self.entry.book.bytes.now self.entry.number) result }
+    {
+        (self.used()..127).all(|w| self.word(w) == 0)
     }
 }
 
-// The first words of the list become those of the signals, block by block; all that lies behind stays.
-pub(crate) fn copy_list(book: &[u8], list: &mut [u32], n: usize)
-    requires { (n ≤ length list.old) × (n ≤ section_size * (blocks_in book.now - 1)) }
-    ensures { list.new ≡ up_to (list_word book.now) n ++ drop n list.old }
-{
-    let mut i: usize = 0;
-    while i < n {
-        list[i] = in_block(book, 1 + i / SECTION_WORDS, 3 + i % SECTION_WORDS);
-        i += 1;
+impl<'a> Book<'a> {
+    ghost use Rattle.book.specs.Private.{EachRight};
+
+    // The book in these bytes, if their length is right.
+    pub(crate) fn whole(bytes: &'a [u8]) -> Option<Self>
+        ensures { MatchOption result (LengthRight bytes.now → ⊥) (λ book. book.bytes.now ≡ bytes.now) }
+    {
+        if bytes.is_empty() || bytes.len() % 512 != 0 || 26 < bytes.len() / 512 {
+            return None;
+        }
+        Some(Self { bytes })
+    }
+
+    // The book in these bytes, if it is sound; else the refusal by 1 to 5.
+    pub(crate) fn sound(bytes: &'a [u8]) -> Result<Self, Refusal>
+        ensures sound { IfOk result (λ book. (book.bytes.now ≡ bytes.now) × Hold (book_rows bytes.now)) }
+        ensures refused { IfErr result (λ e. Answers (book_rows bytes.now) (λ p. p ≡ signals_of bytes.now) (Err e)) }
+    {
+        let book = Self::whole(bytes).ok_or(Refusal::Length)?;
+        book.each(Block::has_check).map_err(Refusal::Check)?;
+        book.each(Block::has_kind).map_err(Refusal::Kind)?;
+        book.each(Block::has_count).map_err(|_| Refusal::Count)?;
+        book.each(Block::has_zeros).map_err(Refusal::Zero)?;
+        Ok(book)
+    }
+
+    fn blocks(self) -> u32
+        ensures { result ≡ blocks_in self.entry.bytes.now }
+    {
+        (self.bytes.len() / 512) as u32
+    }
+
+    // Whether the test says that each block is right, or the first of which it does not.
+    fn each<F: Fn(Block<'a>) -> bool>(self, right: F) -> Result<(), u32>
+        requires { F.IsAlwaysCallable right }
+        ensures { EachRight self.entry (λ block says. F.post right block says) result }
+    {
+        for k in 0..self.blocks() {
+            if !right(self.block(k as usize)) {
+                return Err(k);
+            }
+        }
+        Ok(())
+    }
+
+    fn block(self, number: usize) -> Block<'a>
+        requires { number < blocks_in self.bytes.now }
+        ensures { (result.book ≡ self.entry) × (result.number ≡ number) }
+    {
+        Block { book: self, number }
+    }
+
+    // The signal count m.
+    pub(crate) fn signals(self) -> u32
+        ensures { result ≡ signals_of self.entry.bytes.now }
+    {
+        self.block(0).word(7)
+    }
+
+    pub(crate) fn settings(self) -> Settings
+        ensures { result ≡ settings_in self.entry.bytes.now }
+    {
+        let block = self.block(0);
+        Settings {
+            cycle: block.word(2),
+            slot: block.word(3),
+            slots: block.word(4),
+            packing: block.word(5),
+            payload: block.word(6),
+        }
+    }
+
+    // The first words of the signals into a list, block by block.
+    pub(crate) fn copy_list(self, list: &mut [u32])
+        requires { length list.old ≤ section_size * (blocks_in self.bytes.now - 1) }
+        ensures { list.new ≡ up_to (list_word self.entry.bytes.now) (length list.old) }
+    {
+        for (i, word) in list.iter_mut().enumerate() {
+            *word = self
+                .block(1 + i / SECTION_WORDS)
+                .word(3 + i % SECTION_WORDS);
+        }
     }
 }

@@ -9,13 +9,12 @@ pub returns-then-room-list : goal.returns-then-room-list
 returns-then-room-list c = sym (bytes_after_none c.args.list.now c.args.room.now (omega arith))
 
 pub loop-p-init : goal.loop-p-init
-loop-p-init c = (omega arith, over_none _ _)
+loop-p-init c = over_none _ _
 
 pub loop-p-preserved : goal.loop-p-preserved
-loop-p-preserved c =
-    (omega arith, put_more _ c.loop-p.p _ c.loop-p.invariant.1 (omega arith) refl c.put_word.ensures)
+loop-p-preserved c = put_more _ c.loop-p.p _ c.loop-p.invariant (omega arith) refl c.put_word.ensures
 
 pub returns : goal.returns
 returns c =
-    put_all _ _ _ c.loop-p.p _ c.loop-p.invariant.1 (omega (arith, c.loop-p.invariant.0))
+    put_all _ _ _ c.loop-p.p _ c.loop-p.invariant (omega arith)
     ∙ sym (bytes_after_all c.args.list.now c.args.room.now (omega arith))

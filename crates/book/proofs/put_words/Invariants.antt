@@ -1,10 +1,7 @@
 -- The loop of `book::put_words`: the bytes of the first p words are the list's, and what lies behind is as it was.
-use Rattle.std.proofs.Common.{◌-◌, ◌≤◌, length, slice_index}
+use Rattle.std.proofs.Common.{slice_index}
 use Rattle.book.proofs.WordLaws.{Put}
 use Rattle.book.proofs.put_words.Given as goal
 
 abbrev pub invariant-loop-p : goal.invariant-loop-p
-invariant-loop-p l = (l.p ≤ length l.list) × Put (λ q. slice_index l.list q) l.fn.room l.room l.p
-
-abbrev pub decreases-loop-p : goal.decreases-loop-p
-decreases-loop-p l = length l.list - l.p
+invariant-loop-p l = Put (λ q. slice_index l.list q) l.fn.room l.room l.p

@@ -1,30 +1,29 @@
--- `book::read` meets its contract: past the refusals 1 to 5 a sound book has at most 600 signals in its own blocks, so
--- its words fit where there is room.
+-- `book::read` meets its contract: a sound book has at most 600 signals in its own blocks, so its words fit where there
+-- is room.
 -- Assumes nothing.
-use Rattle.std.proofs.Common.{◌≡◌, ℕ, ◌*◌, ◌++◌, drop, ap, ◌∙◌, arith}
+use Rattle.std.proofs.Common.{◌≡◌, ◌*◌, ◌++◌, length, take, drop, ap, ◌∙◌, arith, length-take}
 use Rattle.terms.specs.Lists.{signal_size}
 use Rattle.book.specs.Words.{up_to}
-use Rattle.book.specs.Reading.{signals_of, list_word, list_in}
-use Rattle.book.proofs.SoundLaws.{sound_count, judged_sound}
+use Rattle.book.specs.Reading.{signals_of, settings_in, list_word, list_in}
+use Rattle.book.proofs.SoundLaws.{sound_count}
 use Rattle.book.proofs.ReadLaws.{read_done}
 use Rattle.book.proofs.read.Goals as goal
 
 pub overflow_cast-result : goal.overflow_cast-result
 overflow_cast-result c =
-    let sound = judged_sound c.args.book.now c.judge-answer.result c.judge-answer.ensures (omega arith) in
-    omega (arith, sound.1, (sound_count c.args.book.now sound.0).0, c.place.ensures)
-
-pub copy_list-requires : goal.copy_list-requires
-copy_list-requires c =
-    let sound = judged_sound c.args.book.now c.judge-answer.result c.judge-answer.ensures (omega arith) in
-    omega (arith, sound.1, sound_count c.args.book.now sound.0, c.place.ensures)
+    let (same, sound) = c.in_ok-book.ensures.sound in
+    let signals = c.signals-signals.ensures ∙ ap signals_of same in
+    omega (arith, (sound_count c.args.book.now sound).0, signals)
 
 pub returns : goal.returns
 unfolding list_in
 returns c =
-    let (sound, signals) = judged_sound c.args.book.now c.judge-answer.result c.judge-answer.ensures (omega arith) in
-    let copied = λ (n : ℕ). up_to (list_word c.args.book.now) n ++ drop n c.args.list.now in
-    let count : signal_size * c.place.result ≡ signal_size * signals_of c.args.book.now =
-    omega (arith, signals, c.place.ensures) in
-    read_done sound (omega (arith, count)) (omega arith) signals c.settings_in.ensures
-    (c.copy_list.ensures ∙ ap copied count)
+    let lent = c.args.list.now in
+    let (same, sound) = c.in_ok-book.ensures.sound in
+    let signals = c.signals-signals.ensures ∙ ap signals_of same in
+    let n = signal_size * c.signals-signals.result in
+    let words : length (take n lent) ≡ signal_size * signals_of c.args.book.now =
+    omega (arith, length-take n lent, signals) in
+    let list = ap (λ l. l ++ drop n lent) c.copy_list.ensures
+    ∙ λ i. up_to (list_word (same i)) (words i) ++ drop (signal_size * signals i) lent in
+    read_done sound (omega (arith, signals)) signals (c.settings.ensures ∙ ap settings_in same) list

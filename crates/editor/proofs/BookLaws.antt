@@ -1,16 +1,21 @@
 -- A book that is sound and planned: the rows of reading passed, and the bytes of its results show the filling.
 -- Assumes nothing.
-use mathlib.Core.Path.{◌≡◌, ap, ◌∙◌}
+use mathlib.Core.Path.{◌≡◌, refl, ap, ◌∙◌}
 use mathlib.Core.List.{List, ◌++◌}
-use Prim.Native.Nat.{ℕ, ◌+◌, ◌*◌, ◌-◌}
+use Prim.Native.Nat.{ℕ, ◌+◌, ◌*◌, ◌-◌, ◌≤◌}
 use native.Mathlib.Omega.{arith}
 use lib.ListN.{length, get_or, take, drop, length-take, length-append, length-drop}
 use lib.Seq.{get_or-take, get_or-drop, get_or-append-add}
 use Rattle.laws.specs.Rows.{Hold}
 use Rattle.laws.proofs.RowLaws.{Numbered, zero_holds, pass}
 use Rattle.terms.specs.declared.Settings.{Settings}
-use Rattle.terms.specs.declared.Answer.{Answer}
-use Rattle.terms.specs.Answers.{number_of, place_of}
+use Rattle.std.specs.Prelude.{Err}
+use Rattle.terms.specs.declared.Refusal.{Refusal}
+use Rattle.terms.specs.Answers.{Answer, number_of, place_of}
+use Rattle.terms.proofs.AnswersLaws.{refusal_numbered}
+use Rattle.terms.specs.Lists.{signal_size}
+use Rattle.book.specs.Outcomes.{ReadOutcome}
+use Rattle.book.proofs.ReadLaws.{read_refuses}
 use Rattle.terms.specs.Requests.{PlanRoom, request}
 use Rattle.terms.specs.Lists.{count}
 use Rattle.terms.specs.Results.{result_size}
@@ -67,6 +72,16 @@ module _ (book lent : List ℕ) where
 
       size : length (bytes_of word n) ≡ result_bytes list
       size = bytes_length word n
+
+  -- a refusal of reading, into room for 600 signals, is planning's
+  pub book_refused : {room exit : List ℕ} {e : Refusal} → ReadOutcome book room (Err e) exit → signal_size * 600 ≤ length room
+      → BookPlanned book lent (Err e) lent
+  book_refused {e = e} read enough =
+      record {
+        answer = read_refuses read enough (bytes_rows s list (length lent)) (Needed s list);
+        refused = λ m. refl;
+        done = λ z. absurd (refusal_numbered e z);
+      }
 
   pub book_planned : (a : Answer) (exit : List ℕ) → Hold (book_rows book) → BytesPlanned (request s list) lent a exit → BookPlanned book lent a exit
   book_planned a exit sound p =

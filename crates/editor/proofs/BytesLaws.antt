@@ -8,9 +8,9 @@ use native.Mathlib.Omega.{arith}
 use lib.ListN.{length, take}
 use Rattle.laws.specs.Rows.{Hold}
 use Rattle.laws.proofs.RowLaws.{past}
-use Rattle.terms.specs.declared.Answer.{Answer}
-use Rattle.terms.specs.declared.Answer.TheVariants.{Setting, Room}
-use Rattle.terms.specs.Answers.{number_of, Answers}
+use Rattle.std.specs.Prelude.{Err}
+use Rattle.terms.specs.declared.Refusal.TheVariants.{Setting, Room}
+use Rattle.terms.specs.Answers.{Answer, number_of, Answers}
 use Rattle.terms.specs.Requests.{Request, PlanRoom}
 use Rattle.terms.specs.Ranges.{LowestOutOfRange}
 use Rattle.terms.specs.Lists.{CountInRange, count}
@@ -28,7 +28,7 @@ pub record Enough (room : PlanRoom) : Type 0 where
   pub results : result_size * 600 ≤ length room.results
 
 module _ {x : Request} (lent : List ℕ) {w : ℕ} (low : LowestOutOfRange x.settings w) where
-  pub refused_6 : (w ≡ 0 → ⊥) → BytesPlanned x lent (Setting w) lent
+  pub refused_6 : (w ≡ 0 → ⊥) → BytesPlanned x lent (Err (Setting w)) lent
   refused_6 n =
       record {
         answer = inl (settings_refused x.settings w low n, refl, low);
@@ -37,7 +37,7 @@ module _ {x : Request} (lent : List ℕ) {w : ℕ} (low : LowestOutOfRange x.set
       }
 
   module _ (e : w ≡ 0) where
-    pub refused_10 : length lent < result_bytes x.list → BytesPlanned x lent (Room (result_bytes x.list)) lent
+    pub refused_10 : length lent < result_bytes x.list → BytesPlanned x lent (Err (Room (result_bytes x.list))) lent
     refused_10 l =
         record {
           answer = inr (settings_granted x.settings w low e, inl ((λ h. omega arith), refl, refl));

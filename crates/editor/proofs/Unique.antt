@@ -7,13 +7,14 @@ use Prim.Native.Nat.{ℕ, ◌*◌}
 use native.Mathlib.Decide.{ℕ_discrete}
 use native.Mathlib.Omega.{arith}
 use lib.ListN.{length}
+use Rattle.std.specs.Prelude.{unwrap_or, option_map}
 use Rattle.laws.specs.Given.{Given}
+use Rattle.laws.proofs.GivenLaws.{given_unique}
 use Rattle.laws.proofs.RowLaws.{Numbered, Single, numbered_join, single_join}
 use Rattle.terms.specs.declared.Settings.{Settings}
-use Rattle.terms.specs.declared.Answer.{Answer}
 use Rattle.terms.specs.declared.Signal.{Signal}
 use Rattle.terms.specs.declared.Frame.{Frame}
-use Rattle.terms.specs.Answers.{number_of, packed_of}
+use Rattle.terms.specs.Answers.{Answer, number_of, packed_of}
 use Rattle.terms.specs.Requests.{Request, PlanRoom}
 use Rattle.terms.specs.Ranges.{setting_word}
 use Rattle.terms.specs.Lists.{count}
@@ -28,9 +29,10 @@ use Rattle.filling.proofs.Unique.{filled_same, same_list, words_one}
 use Rattle.book.specs.Words.{word_at}
 use Rattle.book.specs.Reading.{settings_in, list_in, book_rows}
 use Rattle.book.specs.Part.{HasSignal, part_start}
+use Rattle.book.specs.Outcomes.{answer_of}
 use Rattle.book.proofs.WordLaws.{same_bytes}
 use Rattle.book.proofs.SoundLaws.{book_numbered, book_single}
-use Rattle.book.proofs.OneOutcome.{read_one, settings_of_one, write_one, part_at_one}
+use Rattle.book.proofs.OneOutcome.{read_one, settings_of_one, write_one}
 use Rattle.planner.specs.Rows.{Needed}
 use Rattle.planner.proofs.PlannedLaws.{repetitions_same}
 use Rattle.planner.proofs.Unique.{needed_one, signals_single, planned_unique}
@@ -52,11 +54,11 @@ pub read_answered_unique : {book lent : List ℕ} {q r : ℕ} {exit exit' : List
     → (q ≡ r) × (exit ≡ exit')
 read_answered_unique x y =
     let same = read_one x.outcome y.outcome in
-    (x.answer ∙ ap (λ r. packed_of r.answer) same.0 ∙ sym y.answer, same.1)
+    (x.answer ∙ ap (λ r. packed_of (answer_of r)) same.0 ∙ sym y.answer, same.1)
 
 pub setting_answered_unique : {book : List ℕ} {word q r : ℕ} → SettingAnswered book word q → SettingAnswered book word r → q ≡ r
 setting_answered_unique {word = word} x y =
-    x.answer ∙ ap (λ (s : Settings). setting_word s word) (settings_of_one x.outcome y.outcome) ∙ sym y.answer
+    x.answer ∙ ap (λ o. unwrap_or (option_map (λ s. setting_word s word) o) 0) (settings_of_one x.outcome y.outcome) ∙ sym y.answer
 
 pub write_answered_unique : {s : Settings} {list lent : List ℕ} {q r : ℕ} {exit exit' : List ℕ} → WriteAnswered s list lent q exit
     → WriteAnswered s list lent r exit' → (q ≡ r) × (exit ≡ exit')
@@ -66,7 +68,7 @@ write_answered_unique x y =
 
 pub part_byte_unique : (book : List ℕ) (signal q r : ℕ) → Given (HasSignal book signal) (λ at. at ≡ part_start signal) q
     → Given (HasSignal book signal) (λ at. at ≡ part_start signal) r → q ≡ r
-part_byte_unique = part_at_one
+part_byte_unique book signal = given_unique (HasSignal book signal) (λ at. at ≡ part_start signal) (λ q r d e. d ∙ sym e)
 
 -- ---- plans: of `noctelvia_plan_list` and `noctelvia_plan`
 
@@ -100,7 +102,7 @@ module _ {book lent : List ℕ} where
       (words_one s list x.R (word_at exit) (word_at exit') x.results
       (rw (filled_same list y.R x.R same) at y.results)))
 
-  book_planned_unique : {a b : Answer} {exit exit' : List ℕ} → BookPlanned book lent a exit → BookPlanned book lent b exit'
+  pub book_planned_unique : {a b : Answer} {exit exit' : List ℕ} → BookPlanned book lent a exit → BookPlanned book lent b exit'
       → (a ≡ b) × (exit ≡ exit')
   book_planned_unique {a} {b} p q =
       let same =

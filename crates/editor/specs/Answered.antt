@@ -1,8 +1,8 @@
 -- What a C caller gets: the answer as one number, and what was lent at exit.
-use Rattle.std.specs.Prelude.{◌≡◌, List, ℕ, ◌≤◌, ◌<◌, length, get_or}
+use Rattle.std.specs.Prelude.{◌≡◌, List, ℕ, ◌≤◌, ◌<◌, length, get_or, Option, Result, unwrap_or, option_map}
 use Rattle.terms.specs.declared.Settings.{Settings}
-use Rattle.terms.specs.declared.Answer.{Answer}
-use Rattle.terms.specs.Answers.{number_of, packed_of, Answers}
+use Rattle.terms.specs.declared.Refusal.{Refusal}
+use Rattle.terms.specs.Answers.{Answer, number_of, packed_of, Answers}
 use Rattle.terms.specs.Requests.{Request, PlanRoom}
 use Rattle.terms.specs.Ranges.{setting_word}
 use Rattle.rule.specs.Rule.{Repetitions}
@@ -11,20 +11,20 @@ use Rattle.filling.specs.Shown.{EachResult}
 use Rattle.book.specs.declared.Reading.{Reading}
 use Rattle.book.specs.Words.{word_at}
 use Rattle.book.specs.Reading.{settings_in, list_in}
-use Rattle.book.specs.Outcomes.{ReadOutcome, SettingsOutcome, WriteOutcome}
+use Rattle.book.specs.Outcomes.{answer_of, ReadOutcome, SettingsOutcome, WriteOutcome}
 use Rattle.planner.specs.Rows.{Needed}
 use Rattle.planner.specs.Planned.{Planned}
 use Rattle.editor.specs.Rows.{result_bytes, editor_rows}
 
 pub record ReadAnswered (book lent : List ℕ) (r : ℕ) (exit : List ℕ) : Type 0 where
-  pub reading : Reading
+  pub reading : Result Reading Refusal
   pub outcome : ReadOutcome book lent reading exit
-  pub answer : r ≡ packed_of reading.answer
+  pub answer : r ≡ packed_of (answer_of reading)
 
 pub record SettingAnswered (book : List ℕ) (word r : ℕ) : Type 0 where
-  pub settings : Settings
+  pub settings : Option Settings
   pub outcome : SettingsOutcome book settings
-  pub answer : r ≡ setting_word settings word
+  pub answer : r ≡ unwrap_or (option_map (λ s. setting_word s word) settings) 0
 
 pub record WriteAnswered (s : Settings) (list lent : List ℕ) (r : ℕ) (exit : List ℕ) : Type 0 where
   pub given : Answer

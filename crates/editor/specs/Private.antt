@@ -1,7 +1,6 @@
 -- For private contracts alone: the plan of a list whose results are bytes, over what planning promises.
 use Rattle.std.specs.Prelude.{◌≡◌, List, ℕ, ◌*◌, ◌≤◌, length, take}
-use Rattle.terms.specs.declared.Answer.{Answer}
-use Rattle.terms.specs.Answers.{number_of, Answers}
+use Rattle.terms.specs.Answers.{Answer, number_of, Answers}
 use Rattle.terms.specs.Requests.{Request, PlanRoom}
 use Rattle.terms.specs.Lists.{count}
 use Rattle.terms.specs.Results.{result_size}

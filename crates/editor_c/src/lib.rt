@@ -1,5 +1,6 @@
-// The library for a C program: each call of the editor under its own name, as include/noctelvia.h declares it.
-// Promises: what the editor's functions promise, word for word.
+// The library for a C program, the configuration editor: each call under its own name, as include/noctelvia.h declares it.
+// Promises: what the rooms below promise, of the words as they are handed over; an answer is one number, and where the
+// rooms give none a C program gets 0, as the header says.
 #![tactic(auto)]
 
 ghost use Rattle.std.specs.Prelude.{◌≡◌};
@@ -10,6 +11,32 @@ ghost use Rattle.rule.specs.Rule.{RepetitionGiven};
 ghost use Rattle.book.specs.Part.{HasSignal, part_start};
 ghost use Rattle.editor.specs.OfWords.{settings_given, signal_given, frame_given};
 ghost use Rattle.editor.specs.Answered.{ReadAnswered, SettingAnswered, WriteAnswered, PlanAnswered, BookAnswered};
+
+use terms::{Frame, Settings, Signal};
+
+fn settings(cycle: u32, ticks: u32, slots: u32, packing: u32, payload: u32) -> Settings
+    ensures { result ≡ settings_given cycle ticks slots packing payload }
+{
+    Settings {
+        cycle,
+        slot: ticks,
+        slots,
+        packing,
+        payload,
+    }
+}
+
+fn signal(unit: u32, period: u32, offset: u32, size: u32, bound: u32) -> Signal
+    ensures { result ≡ signal_given unit period offset size bound }
+{
+    Signal {
+        unit,
+        period,
+        offset,
+        size,
+        bound,
+    }
+}
 
 // The age of one signal in one frame, or 0 where a setting, the signal or the frame is out of range.
 #[unsafe(no_mangle)]
@@ -31,10 +58,14 @@ pub extern "C" fn noctelvia_age(
     ensures { AgeGiven (settings_given cycle ticks slots packing payload)
         (signal_given unit period offset size bound) (frame_given slot repetition base) result }
 {
-    editor::noctelvia_age(
-        cycle, ticks, slots, packing, payload, unit, period, offset, size, bound, slot, repetition,
+    let s = settings(cycle, ticks, slots, packing, payload);
+    let x = signal(unit, period, offset, size, bound);
+    let f = Frame {
+        slot,
+        repetition,
         base,
-    )
+    };
+    age::age(s, x, f).unwrap_or(0)
 }
 
 // The repetition of one signal, or 0 where a setting or the signal is out of range or none keeps the bound.
@@ -54,9 +85,9 @@ pub extern "C" fn noctelvia_repetition(
     ensures { RepetitionGiven (settings_given cycle ticks slots packing payload)
         (signal_given unit period offset size bound) result }
 {
-    editor::noctelvia_repetition(
-        cycle, ticks, slots, packing, payload, unit, period, offset, size, bound,
-    )
+    let s = settings(cycle, ticks, slots, packing, payload);
+    let x = signal(unit, period, offset, size, bound);
+    rule::repetition(s, x).unwrap_or(0)
 }
 
 // Reading a book into a lent list: number times 4,294,967,296 plus place.
@@ -64,7 +95,7 @@ pub extern "C" fn noctelvia_repetition(
 pub extern "C" fn noctelvia_read(book: &[u8], list: &mut [u32]) -> u64
     ensures { ReadAnswered book.now list.old result list.new }
 {
-    editor::noctelvia_read(book, list)
+    terms::packed(book::read(book, list).map(|reading| reading.signals))
 }
 
 // Setting word 2 to 6 of a sound book; 0 for any other book or word.
@@ -72,7 +103,9 @@ pub extern "C" fn noctelvia_read(book: &[u8], list: &mut [u32]) -> u64
 pub extern "C" fn noctelvia_setting(book: &[u8], word: u32) -> u32
     ensures { SettingAnswered book.now word result }
 {
-    editor::noctelvia_setting(book, word)
+    book::settings_of(book)
+        .and_then(|s| terms::setting_word(s, word))
+        .unwrap_or(0)
 }
 
 // Writing the book of settings and a list into lent room.
@@ -89,7 +122,8 @@ pub extern "C" fn noctelvia_write(
     ensures { WriteAnswered (settings_given cycle ticks slots packing payload) list.now
         room.old result room.new }
 {
-    editor::noctelvia_write(cycle, ticks, slots, packing, payload, list, room)
+    let s = settings(cycle, ticks, slots, packing, payload);
+    terms::packed(book::write(s, list, room))
 }
 
 // The byte at which the twenty bytes of a signal start in a sound book that has it, or 0.
@@ -97,7 +131,7 @@ pub extern "C" fn noctelvia_write(
 pub extern "C" fn noctelvia_part(book: &[u8], signal: u32) -> u64
     ensures { Given (HasSignal book.now signal) (λ at. at ≡ part_start signal) result }
 {
-    editor::noctelvia_part(book, signal)
+    book::part_at(book, signal).unwrap_or(0) as u64
 }
 
 // Planning over lent words, 64 cells a slot and a result a signal.
@@ -116,7 +150,8 @@ pub extern "C" fn noctelvia_plan_list(
         (plan_room cells.old results.old) result
         (plan_room cells.new results.new) }
 {
-    editor::noctelvia_plan_list(cycle, ticks, slots, packing, payload, list, cells, results)
+    let s = settings(cycle, ticks, slots, packing, payload);
+    terms::packed(planner::plan(s, list, cells, results))
 }
 
 // Planning a book: the little-endian words of a result a signal into the lent bytes.
@@ -124,5 +159,5 @@ pub extern "C" fn noctelvia_plan_list(
 pub extern "C" fn noctelvia_plan(book: &[u8], results: &mut [u8]) -> u64
     ensures { BookAnswered book.now results.old result results.new }
 {
-    editor::noctelvia_plan(book, results)
+    terms::packed(editor::plan(book, results))
 }

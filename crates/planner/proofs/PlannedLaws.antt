@@ -1,31 +1,34 @@
 -- Laws of planning: what was judged fits the filling, and what comes of both is planned.
 -- Assumes nothing.
-use mathlib.Core.Path.{◌≡◌, refl}
+use mathlib.Core.Path.{◌≡◌, refl, ap, ◌∙◌}
 use mathlib.Core.List.{List, [], ◌∷◌}
 use mathlib.Core.Logic.{inl, inr}
-use Prim.Native.Nat.{ℕ, ◌≤◌}
+use Prim.Native.Nat.{ℕ}
 use native.Mathlib.Omega.{arith}
 use lib.ListN.{length}
+use Rattle.std.specs.Prelude.{Result, Ok, Err, MatchResult, IsErrAnd}
+use Rattle.std.proofs.lemmas.Result.{err_from_is_err_and}
 use Rattle.laws.specs.Rows.{Row, FirstRow, Hold}
 use Rattle.laws.specs.Lowest.{EachTo}
-use Rattle.laws.proofs.RowLaws.{Numbered, zero_holds, pass, refused_front}
+use Rattle.laws.proofs.RowLaws.{pass, refused_front}
 use Rattle.terms.specs.declared.Settings.{Settings}
-use Rattle.terms.specs.declared.Answer.{Answer}
-use Rattle.terms.specs.Answers.{number_of}
+use Rattle.terms.specs.declared.Refusal.{Refusal}
+use Rattle.terms.specs.Answers.{Answer, Answers}
+use Rattle.terms.proofs.AnswersLaws.{refusal_numbered}
 use Rattle.terms.specs.Requests.{Request, PlanRoom}
 use Rattle.terms.specs.Ranges.{Repetition}
 use Rattle.terms.specs.Lists.{count, signal_at, group_of, groups, EachSignal}
 use Rattle.terms.proofs.RepetitionLaws.{repetition_positive}
 use Rattle.rule.specs.Rule.{Keeps, segment, Kept, Repetitions}
 use Rattle.rule.proofs.RuleLaws.{largest_unique}
-use Rattle.filling.specs.declared.Filled.{Filled}
+use Rattle.filling.specs.declared.Unfilled.{Unfilled}
 use Rattle.filling.specs.Filled.{needed}
 use Rattle.filling.proofs.LoadLaws.{needed_same as slots_same}
 use Rattle.filling.specs.Outcomes.{repetition_in, Fillable, FillOutcome}
 use Rattle.filling.specs.Outcomes.FillOutcome.{unfit, short, done}
 use Rattle.planner.specs.Rows.{Needed, slots_row, planning_rows}
 use Rattle.planner.specs.Planned.{Planned}
-use Rattle.planner.specs.Judged.{judged_rows, Judged, answer_of}
+use Rattle.planner.specs.Judged.{judged_rows, Found, refusal_of}
 
 module _ (s : Settings) (list : List ℕ) (R : ℕ → ℕ) (r : Repetitions s list R) where
   -- where each signal's bound is kept, its repetition is one of the seven
@@ -46,26 +49,30 @@ module _ (s : Settings) (list : List ℕ) (R : ℕ → ℕ) (r : Repetitions s l
 abbrev judged : Request → PlanRoom → List Row
 judged x lent = judged_rows x (length lent.cells) (length lent.results)
 
-numbered : (x : Request) (lent : PlanRoom) → Numbered (judged x lent)
-numbered x lent = omega arith
+-- the answer of what filling gives
+abbrev pub filled_answer : Result ℕ Unfilled → Answer
+filled_answer (Ok n) = Ok n
+filled_answer (Err u) = Err (refusal_of u)
 
-module _ {x : Request} (lent : PlanRoom) {words : List ℕ} {a : Answer}
-    (j : Judged x (length lent.cells) (length lent.results) a words) where
+-- what is told of each case of a result tells it
+filled_told : (f : Result ℕ Unfilled) (r : Answer) → MatchResult f (λ n. r ≡ Ok n) (λ u. IsErrAnd r (λ e. e ≡ refusal_of u))
+    → r ≡ filled_answer f
+filled_told (Ok n) r c = c
+filled_told (Err u) r c = let (e, is, same) = err_from_is_err_and r c in is ∙ ap (λ (z : Refusal). Err z) same
+
+module _ {x : Request} (lent : PlanRoom) where
   -- the judge's refusal is planning's
-  pub planned_refused : (number_of a ≡ 0 → ⊥) → Planned x lent a lent
-  planned_refused n =
+  pub planned_refused : {e : Refusal} → Answers (judged x lent) (λ p. ⊥) (Err e) → Planned x lent (Err e) lent
+  planned_refused {e} f =
       record {
         answer =
-            refused_front (slots_row x.settings x.list ∷ []) (Needed x.settings x.list) _ _ (judged x lent)
-            (λ p. p ≡ 0) (numbered x lent) n j.answer;
+            refused_front (slots_row x.settings x.list ∷ []) (Needed x.settings x.list) _ _ (judged x lent) (λ p. ⊥)
+            (refusal_numbered e) f;
         refused = λ m. refl;
-        done = λ e. absurd (n e);
+        done = λ z. absurd (refusal_numbered e z);
       }
 
-  module _ (e : number_of a ≡ 0) (room : 600 ≤ length words) where
-    held : Hold (judged x lent)
-    held = (zero_holds (λ p. p ≡ 0) _ _ (judged x lent) (numbered x lent) j.answer e).0
-
+  module _ {words : List ℕ} (held : Hold (judged x lent)) (found : Found x.settings x.list words) where
     fillable : Fillable x words lent
     fillable =
         let (settings, (right, (cells, (results, (signals, (kept, u)))))) = held in
@@ -73,9 +80,9 @@ module _ {x : Request} (lent : PlanRoom) {words : List ℕ} {a : Answer}
           grouped =
               record {
                 right = right;
-                given = omega (arith, right.few);
+                given = omega (arith, right.few, found.room);
                 group = λ i b. omega (arith, (signals i b).unit);
-                seven = kept_seven x.settings x.list (repetition_in words) (j.found e) kept;
+                seven = kept_seven x.settings x.list (repetition_in words) found.repetitions kept;
               };
           cells = cells;
           results = results;
@@ -86,22 +93,27 @@ module _ {x : Request} (lent : PlanRoom) {words : List ℕ} {a : Answer}
         → FirstRow (planning_rows x lent) (Needed x.settings x.list) n p
     asked n p = pass (slots_row x.settings x.list ∷ []) (Needed x.settings x.list) n p (judged x lent) held
 
-    pub planned_filled : {f : Filled} {exit : PlanRoom} → FillOutcome x words lent f exit
-        → Planned x lent (answer_of f) exit
+    pub planned_filled : {f : Result ℕ Unfilled} {exit : PlanRoom} → FillOutcome x words lent f exit
+        → Planned x lent (filled_answer f) exit
     planned_filled (unfit n) = absurd (n fillable)
     planned_filled (short h l) =
         let over : (slots_row x.settings x.list).holds → ⊥ =
-        λ all. omega (arith, all (repetition_in words) (j.found e)) in
+        λ all. omega (arith, all (repetition_in words) found.repetitions) in
         record {
-          answer = asked 9 _ (inl (over, refl, (repetition_in words, j.found e, refl)));
+          answer = asked 9 _ (inl (over, refl, (repetition_in words, found.repetitions, refl)));
           refused = λ n. refl;
           done = λ z. absurd (omega arith);
         }
     planned_filled (done h l cells results) =
         let fits : (slots_row x.settings x.list).holds =
-        λ R r. omega (arith, needed_same x.settings x.list R r (repetition_in words) (j.found e)) in
+        λ R r. omega (arith, needed_same x.settings x.list R r (repetition_in words) found.repetitions) in
         record {
-          answer = asked 0 _ (inr (fits, (refl, (repetition_in words, j.found e, refl))));
+          answer = asked 0 _ (inr (fits, (refl, (repetition_in words, found.repetitions, refl))));
           refused = λ n. absurd (n refl);
-          done = λ z. record { R = repetition_in words; repetitions = j.found e; cells = cells; results = results };
+          done = λ z. record { R = repetition_in words; repetitions = found.repetitions; cells = cells; results = results };
         }
+
+    -- and as its refusals are turned into planning's
+    pub planned_mapped : {f : Result ℕ Unfilled} {r : Answer} {exit : PlanRoom} → FillOutcome x words lent f exit
+        → MatchResult f (λ n. r ≡ Ok n) (λ u. IsErrAnd r (λ e. e ≡ refusal_of u)) → Planned x lent r exit
+    planned_mapped {f} {r} outcome told = rw (filled_told f r told) (planned_filled outcome)

@@ -9,8 +9,7 @@ use native.Mathlib.Omega.{arith}
 use Rattle.laws.proofs.RowLaws.{Numbered, Single}
 use Rattle.laws.proofs.LowestLaws.{lowest_one}
 use Rattle.terms.specs.declared.Settings.{Settings}
-use Rattle.terms.specs.declared.Answer.{Answer}
-use Rattle.terms.specs.Answers.{number_of}
+use Rattle.terms.specs.Answers.{Answer, number_of}
 use Rattle.terms.specs.Requests.{Request, PlanRoom}
 use Rattle.terms.proofs.RangesLaws.{lowest_word_unique}
 use Rattle.terms.proofs.AnswersLaws.{answers_unique}

@@ -1,7 +1,6 @@
 -- What planning gives, for all inputs: an answer, the cells and the results at exit.
 use Rattle.std.specs.Prelude.{◌≡◌, ℕ}
-use Rattle.terms.specs.declared.Answer.{Answer}
-use Rattle.terms.specs.Answers.{number_of, Answers}
+use Rattle.terms.specs.Answers.{Answer, number_of, Answers}
 use Rattle.terms.specs.Requests.{Request, PlanRoom}
 use Rattle.rule.specs.Rule.{Repetitions}
 use Rattle.filling.specs.Filled.{filled}

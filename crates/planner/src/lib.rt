@@ -5,10 +5,10 @@
 ghost use Rattle.terms.specs.Requests.{request, plan_room};
 ghost use Rattle.std.specs.Prelude.{◌≡◌};
 ghost use Rattle.planner.specs.Planned.{Planned};
-ghost use Rattle.planner.specs.Judged.{answer_of};
+ghost use Rattle.planner.specs.Judged.{refusal_of};
 
-use filling::Filled;
-use terms::{Answer, Settings};
+use filling::Unfilled;
+use terms::{Answer, Refusal, Settings};
 
 mod judge;
 
@@ -17,22 +17,17 @@ pub fn plan(s: Settings, list: &[u32], cells: &mut [u32], results: &mut [u32]) -
     ensures { Planned (request s list.now) (plan_room cells.old results.old) result
         (plan_room cells.new results.new) }
 {
-    let mut repetitions = [0u32; terms::MOST_SIGNALS];
-    let answer = judge::judge(s, list, cells.len(), results.len(), &mut repetitions);
-    if terms::number(answer) != 0 {
-        return answer;
-    }
-    answered(filling::fill(s, list, &repetitions, cells, results))
+    let repetitions = judge::judge(s, list, cells.len(), results.len())?;
+    filling::fill(s, list, &repetitions, cells, results).map_err(refusal_of)
 }
 
-// What filling gives, as an answer; a list that was judged fits, and no frame is in trouble.
-fn answered(filled: Filled) -> Answer
-    ensures { result ≡ answer_of filled }
+// A list that was judged fits, and no frame is in trouble. It is no `From`: neither type is of this crate.
+fn refusal_of(unfilled: Unfilled) -> Refusal
+    ensures { result ≡ refusal_of unfilled }
 {
-    match filled {
-        Filled::Done(slots) => Answer::Done(slots),
-        Filled::Short(slots) => Answer::Slots(slots),
-        Filled::Taken(signal) => Answer::Taken(signal),
-        Filled::Unfit => Answer::Taken(0),
+    match unfilled {
+        Unfilled::Short(slots) => Refusal::Slots(slots),
+        Unfilled::Taken(signal) => Refusal::Taken(signal),
+        Unfilled::Unfit => Refusal::Taken(0),
     }
 }

@@ -27,9 +27,10 @@ fn signal(period: u32, offset: u32, bound: u32) -> Signal {
     }
 }
 
-// The case's number and the signal's repetition, 0 where it is refused.
+// The case's number and the signal's repetition; where it is refused the file `stdout` has 0.
 fn gets(rt: &impl Print, case: u32, s: Settings, x: Signal) -> io::Result<()> {
-    println!(rt; "case {case}: repetition {}", rule::repetition(s, x))
+    let repetition = rule::repetition(s, x).unwrap_or(0);
+    println!(rt; "case {case}: repetition {repetition}")
 }
 
 // The case's number and the signal's age in a slot, at base 0.
@@ -46,56 +47,31 @@ fn shows(
         repetition,
         base: 0,
     };
-    println!(rt; "case {case}: age in slot {slot} is {}", age::age(s, x, f))
+    let age = age::age(s, x, f).unwrap_or(0);
+    println!(rt; "case {case}: age in slot {slot} is {age}")
 }
 
-// A word of a list, if it is there.
-fn put(list: &mut [u32], at: usize, word: u32) {
-    if at < list.len() {
-        list[at] = word;
+// Case 11: four units, each with ten signals 5000/2000/5000 and ten 10000/2000/10000.
+fn four_units() -> [u32; 400] {
+    let mut list = [0u32; 400];
+    for (i, words) in list.chunks_exact_mut(terms::SIGNAL_WORDS).enumerate() {
+        let unit = i as u32 / 20 + 1;
+        let period = if i % 20 < 10 { 5000 } else { 10000 };
+        words.copy_from_slice(&[unit, period, 2000, 16, period]);
     }
-}
-
-// Signal i of case 11, counted from 0: four units, each with ten signals 5000/2000/5000 and ten 10000/2000/10000.
-fn put_signal(list: &mut [u32], i: usize) {
-    let unit = i / 20 + 1;
-    let mut period = 5000;
-    if 10 <= i % 20 {
-        period = 10000;
-    }
-    let at = terms::SIGNAL_WORDS * (i % 80);
-    put(list, at, (unit % 256) as u32);
-    put(list, at + 1, period);
-    put(list, at + 2, 2000);
-    put(list, at + 3, 16);
-    put(list, at + 4, period);
-}
-
-fn case_11(list: &mut [u32]) {
-    let mut i = 0;
-    while i < 80 {
-        put_signal(list, i);
-        i += 1;
-    }
+    list
 }
 
 // The case's number, the plan's answer, and the slot and base of its first three signals.
 fn fills(rt: &impl Print, case: u32, s: Settings, list: &[u32]) -> io::Result<()> {
-    let mut cells = [0u32; 8192];
+    let mut cells = [0u32; terms::MOST_CELLS];
     let mut results = [0u32; terms::RESULT_WORDS * terms::MOST_SIGNALS];
     let answer = planner::plan(s, list, &mut cells, &mut results);
     let (number, place) = (terms::number(answer), terms::place(answer));
-    print!(rt; "case {case}: number {number}, place {place}, slots and bases ")?;
-    print!(rt; "{} {}, ", results[0], results[1])?;
-    print!(rt;
-        "{} {}, ",
-        results[terms::RESULT_WORDS],
-        results[terms::RESULT_WORDS + 1]
-    )?;
+    let [a, b, c] = [1, 2, 3].map(|i| terms::result_at(&results, i).frame);
     println!(rt;
-        "{} {}",
-        results[2 * terms::RESULT_WORDS],
-        results[2 * terms::RESULT_WORDS + 1]
+        "case {case}: number {number}, place {place}, slots and bases {} {}, {} {}, {} {}",
+        a.slot, a.base, b.slot, b.base, c.slot, c.base
     )
 }
 
@@ -124,14 +100,12 @@ fn main(rt: HostRuntime) -> io::Result<()> {
     gets(&rt, 9, settings(30, 0), signal(2500, 472, 2500))?;
     shows(&rt, 9, settings(30, 0), signal(2500, 472, 2500), 30, 1)?;
     let three = [
-        1u32, 10000, 2000, 16, 10000, 1, 5000, 2000, 16, 5000, 1, 10000, 2000, 16, 10000,
+        1, 10000, 2000, 16, 10000, 1, 5000, 2000, 16, 5000, 1, 10000, 2000, 16, 10000,
     ];
     fills(&rt, 10, settings(93, 100), &three)?;
-    let mut four_units = [0u32; 400];
-    case_11(&mut four_units);
-    fills(&rt, 11, settings(93, 0), &four_units)?;
-    fills(&rt, 11, settings(32, 0), &four_units)?;
-    fills(&rt, 11, settings(31, 0), &four_units)?;
-    let none = [0u32; 0];
-    fills(&rt, 12, settings(93, 0), &none)
+    let four = four_units();
+    fills(&rt, 11, settings(93, 0), &four)?;
+    fills(&rt, 11, settings(32, 0), &four)?;
+    fills(&rt, 11, settings(31, 0), &four)?;
+    fills(&rt, 12, settings(93, 0), &[])
 }

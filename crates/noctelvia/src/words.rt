@@ -1,6 +1,6 @@
 // What the program says in words: why a book is refused and what would mend it, and what goes in and comes out.
-use std::io;
-use terms::Answer;
+use std::{fmt, io};
+use terms::Refusal;
 
 pub fn help(rt: &impl Print) -> io::Result<()> {
     println!(rt; "noctelvia: plans the static segment of one FlexRay channel.")?;
@@ -16,48 +16,53 @@ pub fn help(rt: &impl Print) -> io::Result<()> {
     println!(rt; "A refusal's reason in words goes to standard error.")
 }
 
-// Numbers 6 to 11: what planning refuses.
-fn because_of_plan(rt: &impl Eprint, answer: Answer) -> io::Result<()> {
-    match answer {
-        Answer::Setting(w) => eprintln!(rt;
-            "Setting word {w} is out of range, or (word 4) the slots are too long for the cycle: correct that setting."
-        ),
-        Answer::Field(i) => eprintln!(rt;
-            "Signal {i} has a field out of range: correct its unit, period, offset, size or bound."
-        ),
-        Answer::Bound(i) => eprintln!(rt;
-            "No repetition keeps the bound of signal {i} in every slot and at every base: \
-             raise its bound, or move its offset."
-        ),
-        Answer::Slots(n) => eprintln!(rt;
-            "The plan needs {n} slots, more than the segment has: add slots, raise bounds or strike signals."
-        ),
-        Answer::Room(n) => eprintln!(rt; "The room is too short: {n} are needed."),
-        Answer::Taken(i) => eprintln!(rt; "The frame of signal {i} meets a taken cycle."),
-        Answer::Done(n) => eprintln!(rt; "Done with {n}."),
-        _ => eprintln!(rt; "Refused with number {}.", terms::number(answer)),
-    }
-}
+// Why a book is refused: one sentence of what is wrong, where, and what would mend it.
+#[derive(Clone, Copy)]
+pub struct Reason(pub Refusal);
 
-// One sentence: what is wrong, where, and what would mend it.
-pub fn because(rt: &impl Eprint, answer: Answer) -> io::Result<()> {
-    match answer {
-        Answer::Length => eprintln!(rt;
-            "The book is empty, not a multiple of 512 bytes, or over 26 blocks: send it whole, and nothing behind it."
-        ),
-        Answer::Check(k) => eprintln!(rt;
-            "The check word of block {k} (from 0) is wrong: the block was damaged or not sealed; write the book again."
-        ),
-        Answer::Kind(k) => eprintln!(rt;
-            "Block {k} (from 0) has a wrong number or kind: blocks are missing, doubled or out of order."
-        ),
-        Answer::Count => eprintln!(rt;
-            "The signal count is over 600 or does not fit the blocks: \
-             correct word 7 of block 0 or word 2 of a signal block."
-        ),
-        Answer::Zero(k) => eprintln!(rt;
-            "A word of block {k} (from 0) that must be zero is not: clear what is unused."
-        ),
-        _ => because_of_plan(rt, answer),
+impl fmt::Display for Reason {
+    fn fmt<W: fmt::Write>(&self, f: &mut fmt::Formatter<W>) -> fmt::Result {
+        match self.0 {
+            Refusal::Length => write!(
+                f,
+                "The book is empty, not a multiple of 512 bytes, or over 26 blocks: send it whole, and nothing behind it."
+            ),
+            Refusal::Check(k) => write!(
+                f,
+                "The check word of block {k} (from 0) is wrong: the block was damaged or not sealed; write the book again."
+            ),
+            Refusal::Kind(k) => write!(
+                f,
+                "Block {k} (from 0) has a wrong number or kind: blocks are missing, doubled or out of order."
+            ),
+            Refusal::Count => write!(
+                f,
+                "The signal count is over 600 or does not fit the blocks: \
+                 correct word 7 of block 0 or word 2 of a signal block."
+            ),
+            Refusal::Zero(k) => write!(
+                f,
+                "A word of block {k} (from 0) that must be zero is not: clear what is unused."
+            ),
+            Refusal::Setting(w) => write!(
+                f,
+                "Setting word {w} is out of range, or (word 4) the slots are too long for the cycle: correct that setting."
+            ),
+            Refusal::Field(i) => write!(
+                f,
+                "Signal {i} has a field out of range: correct its unit, period, offset, size or bound."
+            ),
+            Refusal::Bound(i) => write!(
+                f,
+                "No repetition keeps the bound of signal {i} in every slot and at every base: \
+                 raise its bound, or move its offset."
+            ),
+            Refusal::Slots(n) => write!(
+                f,
+                "The plan needs {n} slots, more than the segment has: add slots, raise bounds or strike signals."
+            ),
+            Refusal::Room(n) => write!(f, "The room is too short: {n} are needed."),
+            Refusal::Taken(i) => write!(f, "The frame of signal {i} meets a taken cycle."),
+        }
     }
 }

@@ -8,11 +8,12 @@ mod table;
 mod text;
 mod units;
 
+use plans::Plan;
 use std::env::FillError;
 use std::io;
-use std::io::Read;
 use std::rt::Env;
-use terms::{Answer, Settings};
+use terms::Refusal;
+use units::Units;
 
 fn help(rt: &impl Print) -> io::Result<()> {
     println!(rt; "picture: draws the plan of the static segment of one FlexRay channel.")?;
@@ -30,84 +31,32 @@ fn help(rt: &impl Print) -> io::Result<()> {
     )
 }
 
-// The first words of a list, or all of it where it is shorter.
-fn first(list: &[u32], count: usize) -> &[u32] {
-    if list.len() < count {
-        return list;
-    }
-    &list[..count]
-}
-
 // `REFUSED`, number, place: as a picture, and on standard error.
-fn refuse(rt: &(impl Print + Eprint), answer: Answer) -> io::Result<()> {
-    let (number, place) = (terms::number(answer), terms::place(answer));
+fn refuse(rt: &(impl Print + Eprint), refusal: Refusal) -> io::Result<()> {
     sheet::open(rt, 480, 80)?;
     print!(rt; "<text x=\"24\" y=\"48\" font-size=\"24\" font-weight=\"bold\">")?;
-    print!(rt; "REFUSED {number} {place}</text>\n</svg>\n")?;
-    eprintln!(rt; "REFUSED {number} {place}")
+    print!(rt; "REFUSED {refusal}</text>\n</svg>\n")?;
+    eprintln!(rt; "REFUSED {refusal}")
 }
 
-fn draw(
-    rt: &impl Print,
-    s: Settings,
-    list: &[u32],
-    cells: &[u32],
-    results: &[u32],
-    signals: u32,
-    used: u32,
-) -> io::Result<()> {
-    let mut ranks = [0u32; 256];
-    let units = units::rank(list, results, signals, &mut ranks);
-    sheet::open(rt, sheet::width(s.slots), sheet::height(s.slots, units))?;
-    sheet::head(rt, s, signals, used)?;
-    table::grid(rt, s.slots)?;
-    table::frames(rt, list, cells, results, signals, &ranks)?;
-    legend::legend(rt, list, results, signals, s.slots, &ranks)?;
+fn draw(rt: &impl Print, plan: &Plan, units: &Units) -> io::Result<()> {
+    let slots = plan.settings.slots;
+    let last_rank = units.last_key_value().map_or(0, |(_, share)| share.rank);
+    sheet::open(rt, sheet::width(slots), sheet::height(slots, last_rank))?;
+    sheet::head(rt, plan)?;
+    table::grid(rt, slots)?;
+    table::frames(rt, plan, units)?;
+    legend::legend(rt, units, slots)?;
     println!(rt; "</svg>")
 }
 
-fn plan(rt: &(impl Print + Eprint), book: &[u8]) -> io::Result<()> {
-    let mut list = [0u32; terms::SIGNAL_WORDS * terms::MOST_SIGNALS];
-    let reading = book::read(book, &mut list);
-    let read = reading.answer;
-    if terms::number(read) != 0 {
-        return refuse(rt, read);
-    }
-    let signals = terms::place(read);
-    let s = reading.settings;
-    let mut cells = [0u32; 8192];
-    let mut results = [0u32; terms::RESULT_WORDS * terms::MOST_SIGNALS];
-    let answer = planner::plan(
-        s,
-        first(&list, terms::SIGNAL_WORDS * (signals as usize)),
-        &mut cells,
-        &mut results,
-    );
-    if terms::number(answer) != 0 {
-        return refuse(rt, answer);
-    }
-    draw(
-        rt,
-        s,
-        &list,
-        &cells,
-        &results,
-        signals,
-        terms::place(answer),
-    )
-}
-
-// Whether the program was given an argument, whatever its bytes.
-fn has_argument(rt: &impl Env) -> bool {
-    !matches!(rt.arg(1, &mut []), Err(FillError::NotPresent))
-}
-
 fn main(rt: HostRuntime) -> io::Result<()> {
-    if has_argument(&rt) {
+    // An argument, whatever its bytes.
+    if !matches!(rt.arg(1, &mut []), Err(FillError::NotPresent)) {
         return help(&rt);
     }
-    // One byte more than the longest book, so that a longer one is seen to be too long.
-    let mut book = Vec::new(rt.alloc());
-    rt.reader().take(13313).read_to_end(&mut book)?;
-    plan(&rt, &book)
+    match plans::of_input(rt.reader(), rt.alloc())? {
+        Ok(plan) => draw(&rt, &plan, &units::units_of(&plan, rt.alloc())?),
+        Err(refusal) => refuse(&rt, refusal),
+    }
 }

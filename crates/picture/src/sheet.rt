@@ -3,28 +3,25 @@
 // edge, and 11 by 7 of colour.
 ghost use Rattle.std.specs.Prelude.{◌<◌};
 
-use crate::text::counted;
+use crate::text::Signals;
+use plans::Plan;
 use std::io;
-use terms::Settings;
 
 // Where the colour of a slot begins, counted from 1: behind its grid line.
 pub fn across(slot: u32) -> u64 {
-    53 + 12 * (slot as u64)
+    53 + 12 * u64::from(slot)
 }
 
 // Where the colour of a cycle begins, counted from 0: below its grid line.
 pub fn down(cycle: u32) -> u64 {
-    81 + 8 * (cycle as u64)
+    81 + 8 * u64::from(cycle)
 }
 
 // Slots that the sheet is wide enough for: at least 46, so that the title and the legend have room.
 fn room(slots: u32) -> u32
     ensures { 45 < result }
 {
-    if slots < 46 {
-        return 46;
-    }
-    slots
+    slots.max(46)
 }
 
 // Columns of the legend, of 276 pixels (23 slots) each.
@@ -44,15 +41,12 @@ pub fn row(rank: u32, slots: u32) -> u32 {
 }
 
 pub fn width(slots: u32) -> u64 {
-    88 + 12 * (room(slots) as u64)
+    88 + 12 * u64::from(room(slots))
 }
 
 // Each row of the legend takes 20 pixels; the first is there also where no unit has a signal.
-pub fn height(slots: u32, units: u32) -> u64 {
-    if units == 0 {
-        return 660;
-    }
-    660 + 20 * (row(units - 1, slots) as u64)
+pub fn height(slots: u32, last_rank: u32) -> u64 {
+    660 + 20 * u64::from(row(last_rank, slots))
 }
 
 // The head of the file: a white sheet.
@@ -63,17 +57,22 @@ pub fn open(rt: &impl Print, width: u64, height: u64) -> io::Result<()> {
     println!(rt; "<rect width=\"100%\" height=\"100%\" fill=\"#ffffff\"/>")
 }
 
-fn title(rt: &impl Print, s: Settings, signals: u32, used: u32) -> io::Result<()> {
-    counted(rt, signals, " signal")?;
-    print!(rt; ", {used} of {} slots used", s.slots)
+fn title(rt: &impl Print, plan: &Plan) -> io::Result<()> {
+    print!(rt;
+        "{}, {} of {} slots used",
+        Signals(plan.signals),
+        plan.used,
+        plan.settings.slots
+    )
 }
 
 // The title, also for the browser's tab, and the settings.
-pub fn head(rt: &impl Print, s: Settings, signals: u32, used: u32) -> io::Result<()> {
+pub fn head(rt: &impl Print, plan: &Plan) -> io::Result<()> {
     print!(rt; "<title>")?;
-    title(rt, s, signals, used)?;
+    title(rt, plan)?;
     print!(rt; "</title>\n<text x=\"64\" y=\"30\" font-size=\"20\" font-weight=\"bold\">")?;
-    title(rt, s, signals, used)?;
+    title(rt, plan)?;
+    let s = plan.settings;
     print!(rt; "</text>\n<text x=\"64\" y=\"50\" font-size=\"11\">")?;
     print!(rt; "cycle length {}, slot length {}", s.cycle, s.slot)?;
     println!(rt;

@@ -1,9 +1,10 @@
 // The table: a light grid with the numbers of slots and cycles, and upon it the frames.
 // A frame is drawn from the planner's cells, and its title says what a reader would ask of it.
 use crate::sheet::{across, down};
-use crate::text::{colour, result_word, word};
-use crate::units::colour_of;
+use crate::units::Units;
+use plans::Plan;
 use std::io;
+use terms::SignalResult;
 
 // Whether a slot's number is written: 1, each fifth, and the last where the one before it leaves room.
 fn slot_is_named(slot: u32, slots: u32) -> bool {
@@ -24,9 +25,7 @@ fn mark_slot(rt: &impl Print, slot: u32, slots: u32) -> io::Result<()> {
 }
 
 fn mark_slots(rt: &impl Print, slots: u32) -> io::Result<()> {
-    let mut slot = 0;
-    while slot < slots {
-        slot += 1;
+    for slot in 1..=slots {
         mark_slot(rt, slot, slots)?;
     }
     Ok(())
@@ -49,15 +48,13 @@ fn mark_cycle(rt: &impl Print, cycle: u32, slots: u32) -> io::Result<()> {
     } else {
         print!(rt; "<path fill=\"#dddddd\"")?;
     }
-    let (y, width) = (down(cycle), 12 * (slots as u64));
+    let (y, width) = (down(cycle), 12 * u64::from(slots));
     println!(rt; " d=\"M64 {y}v-1h{width}v1z\"/>")
 }
 
 fn mark_cycles(rt: &impl Print, slots: u32) -> io::Result<()> {
-    let mut cycle = 0;
-    while cycle < 64 {
+    for cycle in 0..64 {
         mark_cycle(rt, cycle, slots)?;
-        cycle += 1;
     }
     Ok(())
 }
@@ -72,17 +69,9 @@ pub fn grid(rt: &impl Print, slots: u32) -> io::Result<()> {
     println!(rt; "</g>\n<g font-size=\"10\" text-anchor=\"end\">")?;
     println!(rt; "<text x=\"58\" y=\"74\" font-size=\"12\">slot</text>")?;
     mark_cycles(rt, slots)?;
-    let width = 12 * (slots as u64);
+    let width = 12 * u64::from(slots);
     print!(rt; "</g>\n<rect x=\"64.5\" y=\"80.5\" height=\"512\" width=\"{width}\"")?;
     println!(rt; " fill=\"none\" stroke=\"#aaaaaa\"/>")
-}
-
-// The signal's number in a cell of the table, or 0.
-fn cell(cells: &[u32], slot: u32, cycle: u32) -> u32 {
-    if slot == 0 {
-        return 0;
-    }
-    word(cells, 64 * (slot as usize - 1) + cycle as usize)
 }
 
 fn draw_cell(rt: &impl Print, slot: u32, cycle: u32) -> io::Result<()> {
@@ -91,61 +80,47 @@ fn draw_cell(rt: &impl Print, slot: u32, cycle: u32) -> io::Result<()> {
 }
 
 // Each cycle of the slot that holds the signal.
-fn draw_cells(rt: &impl Print, cells: &[u32], slot: u32, signal: u32) -> io::Result<()> {
-    let mut cycle = 0;
-    while cycle < 64 {
-        if cell(cells, slot, cycle) == signal {
+fn draw_cells(rt: &impl Print, plan: &Plan, slot: u32, signal: u32) -> io::Result<()> {
+    for cycle in 0..64 {
+        if plan.cell(slot, cycle) == Some(signal) {
             draw_cell(rt, slot, cycle)?;
         }
-        cycle += 1;
     }
     Ok(())
 }
 
 // What a browser shows under the pointer.
-fn tell(rt: &impl Print, list: &[u32], results: &[u32], signal: u32) -> io::Result<()> {
-    let x = terms::signal_at(list, signal);
-    let (unit, bound) = (x.unit, x.bound);
-    let slot = result_word(results, signal, 0);
-    let base = result_word(results, signal, 1);
-    let repetition = result_word(results, signal, 2);
-    let age = result_word(results, signal, 3);
-    print!(rt; "<title>signal {signal}, unit {unit}, slot {slot}, base {base}")?;
-    print!(rt; ", repetition {repetition}, age {age}, bound {bound}</title>")
+fn tell(rt: &impl Print, plan: &Plan, signal: u32) -> io::Result<()> {
+    let x = plan.signal(signal);
+    let SignalResult { frame, age } = plan.result(signal);
+    print!(rt;
+        "<title>signal {signal}, unit {}, slot {}, base {}",
+        x.unit, frame.slot, frame.base
+    )?;
+    print!(rt;
+        ", repetition {}, age {age}, bound {}</title>",
+        frame.repetition, x.bound
+    )
 }
 
-// The frame of a signal.
-fn frame(
-    rt: &impl Print,
-    list: &[u32],
-    cells: &[u32],
-    results: &[u32],
-    signal: u32,
-    ranks: &[u32; 256],
-) -> io::Result<()> {
+// The frame of a signal, in the colour of its unit.
+fn frame(rt: &impl Print, plan: &Plan, units: &Units, signal: u32) -> io::Result<()> {
     print!(rt; "<g")?;
-    colour(rt, colour_of(ranks, terms::signal_at(list, signal).unit))?;
+    if let Some(share) = units.get(&plan.signal(signal).unit) {
+        print!(rt; " {}", share.fill())?;
+    }
     print!(rt; ">")?;
-    tell(rt, list, results, signal)?;
+    tell(rt, plan, signal)?;
     print!(rt; "<path d=\"")?;
-    draw_cells(rt, cells, result_word(results, signal, 0), signal)?;
+    draw_cells(rt, plan, plan.result(signal).frame.slot, signal)?;
     println!(rt; "\"/></g>")
 }
 
 // All frames. The one under the pointer turns black, so that its cycles are seen together.
-pub fn frames(
-    rt: &impl Print,
-    list: &[u32],
-    cells: &[u32],
-    results: &[u32],
-    signals: u32,
-    ranks: &[u32; 256],
-) -> io::Result<()> {
+pub fn frames(rt: &impl Print, plan: &Plan, units: &Units) -> io::Result<()> {
     println!(rt; "<style>#frames g:hover{{fill:#000000}}</style>\n<g id=\"frames\">")?;
-    let mut signal = 0;
-    while signal < signals {
-        signal += 1;
-        frame(rt, list, cells, results, signal, ranks)?;
+    for signal in 1..=plan.signals {
+        frame(rt, plan, units, signal)?;
     }
     println!(rt; "</g>")
 }

@@ -1,35 +1,25 @@
-// Pieces of which the picture's text is made; and the words of a lent list.
-use std::io;
+// Pieces of which the picture's text is made.
+use std::fmt;
 
-// How many there are, and of what: no `s` behind the name of one.
-pub fn counted(rt: &impl Print, n: u32, name: &str) -> io::Result<()> {
-    print!(rt; "{n}{name}")?;
-    if n != 1 {
-        print!(rt; "s")?;
+// How many signals there are: no `s` behind the name of one.
+#[derive(Clone, Copy)]
+pub struct Signals(pub u32);
+
+impl fmt::Display for Signals {
+    fn fmt<W: fmt::Write>(&self, f: &mut fmt::Formatter<W>) -> fmt::Result {
+        match self.0 {
+            1 => write!(f, "1 signal"),
+            n => write!(f, "{n} signals"),
+        }
     }
-    Ok(())
 }
 
 // A colour as red, green and blue, two digits each.
-pub fn colour(rt: &impl Print, rgb: u32) -> io::Result<()> {
-    print!(rt; " fill=\"#{rgb:06x}\"")
-}
+#[derive(Clone, Copy)]
+pub struct Fill(pub u32);
 
-// A word of a list, or 0 past its end.
-pub fn word(list: &[u32], at: usize) -> u32 {
-    if at < list.len() {
-        return list[at];
+impl fmt::Display for Fill {
+    fn fmt<W: fmt::Write>(&self, f: &mut fmt::Formatter<W>) -> fmt::Result {
+        write!(f, "fill=\"#{:06x}\"", self.0)
     }
-    0
-}
-
-// Word d of a signal's result, or 0 past the end of the results.
-pub fn result_word(results: &[u32], signal: u32, d: u32) -> u32 {
-    if signal == 0 {
-        return 0;
-    }
-    word(
-        results,
-        terms::RESULT_WORDS * (signal as usize - 1) + d as usize,
-    )
 }

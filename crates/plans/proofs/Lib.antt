@@ -1,0 +1,2 @@
+pub mod OfBookLaws
+pub mod Unique

@@ -5,7 +5,7 @@ use mathlib.Core.Bool.{Bool, true, false}
 use mathlib.Core.List.{List, [], ◌∷◌}
 use mathlib.Core.Logic.Dec
 use mathlib.Core.Logic.{dite}
-use Prim.Native.Nat.{ℕ, zero, suc, ◌*◌, ◌/◌, ◌≤◌}
+use Prim.Native.Nat.{ℕ, ◌*◌}
 use native.Mathlib.Decide.{ℕ_discrete, dec_le, map_dec}
 use native.Mathlib.Omega.{arith}
 use lib.ListN.{length}
@@ -21,7 +21,7 @@ use Rattle.terms.specs.Ranges.{setting_rows, SettingsInRange, setting_row, Signa
 use Rattle.terms.specs.Lists.{count, count_row, signal_at, EachSignal}
 use Rattle.terms.specs.Results.{result_size}
 use Rattle.rule.specs.Rule.{Keeps, segment, Largest, Kept, Repetitions}
-use Rattle.rule.proofs.RuleLaws.{Left, left_start, left_repetition, left_half, left_found, left_none}
+use Rattle.rule.proofs.RuleLaws.{largest_exists}
 use Rattle.rule.proofs.RuleTests.{keeps_flag, keeps_says}
 use Rattle.terms.proofs.RepetitionLaws.{repetition_positive}
 use Rattle.terms.proofs.RangesDecided.{settings_decided, settings_or_not, signal_or_not, count_or_not}
@@ -36,19 +36,8 @@ decided : {P : Type 0} (b : Bool) → Says P b → Dec P
 decided true p = yes p
 decided false n = no n
 
--- a signal's repetition, from the largest down: so many halvings are left at most
 pub repetition_of : (s : Settings) (x : Signal) → Valid s x → (r : ℕ) × Largest (Keeps s x (segment s)) r
-repetition_of s x v = halving 64 64 (omega arith) (left_start P)
-  where
-    P : ℕ → Type 0
-    P = Keeps s x (segment s)
-
-    halving : (n r : ℕ) → r ≤ n → Left P r → (r : ℕ) × Largest P r
-    halving zero r h l = (0, left_none P r l (omega arith))
-    halving (suc n) r h l =
-        dite (ℕ_discrete r 0) (λ z. (0, left_none P r l z)) (λ some.
-        dite (decided (keeps_flag s x r) (keeps_says s x r v (left_repetition P r l some))) (λ p. (r, left_found P r l some p))
-        (λ f. halving n (r / 2) (omega arith) (left_half P r l some f)))
+repetition_of s x v = largest_exists (Keeps s x (segment s)) (λ R r. decided (keeps_flag s x R) (keeps_says s x R v r))
 
 -- some repetition keeps the bound, or none does
 kept_or_not : (s : Settings) (x : Signal) → Valid s x → Dec (Kept s x)

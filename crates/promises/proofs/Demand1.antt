@@ -7,12 +7,15 @@ use native.Mathlib.Omega.{arith}
 use lib.ListN.{length}
 use Rattle.laws.specs.Rows.{Row, FirstRow}
 use Rattle.terms.specs.declared.Settings.{Settings}
-use Rattle.terms.specs.declared.Answer.{Answer}
-use Rattle.terms.specs.Answers.{number_of, place_of, Answers}
+use Rattle.terms.specs.Answers.{Answer, number_of, place_of, Answers}
 use Rattle.terms.specs.Ranges.{setting_word}
+use Rattle.std.specs.Prelude.{Result, Ok, Err, unwrap_or, option_map}
+use Rattle.terms.specs.declared.Refusal.{Refusal}
+use Rattle.book.specs.declared.Reading.{Reading}
+use Rattle.book.specs.Outcomes.{answer_of, ReadOutcome}
 use Rattle.editor.specs.Answered.{SettingAnswered, BookPlanned}
 use Rattle.planner.proofs.PlaceLaws.{planning_small}
-use Rattle.promises.specs.Calls.{Return, Routine, Always, Tells, Plans, PlansList, PlansBook, Reads, ReadsFromC, Writes, WritesFromC}
+use Rattle.promises.specs.Calls.{Return, Routine, Always, Tells, settings_read, Plans, PlansList, PlansBook, Reads, ReadsFromC, Writes, WritesFromC}
 use Rattle.promises.specs.Demand1.{Demand1, Demand1Planning, Demand1Reading, Demand1Writing, Demand1Editor}
 use Rattle.book.proofs.ReadLaws.{read_exists, settings_exists}
 use Rattle.book.proofs.WriteLaws.{write_exists}
@@ -71,31 +74,37 @@ plan_book_1 =
 
 -- ---- reading
 
+-- a refusal of reading leaves the list
+read_unchanged : {b l exit : List ℕ} (r : Result Reading Refusal) → ReadOutcome b l r exit
+    → (number_of (answer_of r) ≡ 0 → ⊥) → exit ≡ l
+read_unchanged (Ok x) read n = absurd (n refl)
+read_unchanged (Err e) read n = read.refused
+
 pub read_1 : Demand1Reading Reads
 read_1 =
     keeps_1 (λ book l.
     let (r, exit, read) = read_exists book l in
-    (exit, _, _, (r.settings, (r, read, refl, (refl, refl)))))
-    (λ book l y (s, (r, read, e, t)). (r.answer, read.answer, λ n. (read.refused n).1, t))
+    (exit, _, _, (settings_read r, (r, read, refl, (refl, refl)))))
+    (λ book l y (s, (r, read, e, t)). (answer_of r, read.answer, read_unchanged r read, t))
 
 -- the C calls give what reading gives, but for the settings where it refuses
 pub c_reads : (book l : List ℕ) (s : Settings) (y : Return (List ℕ)) → ReadsFromC s book l y → (q : Settings) × Reads q book l y
 c_reads book l s y (r, read, e, h) =
-    let a = read.reading.answer in
+    let a = answer_of read.reading in
     let small = reading_small book (length l) _ _ read.outcome.answer in
-    (read.reading.settings, (read.reading, read.outcome, refl, comes_apart a r y small read.answer h))
+    (settings_read read.reading, (read.reading, read.outcome, refl, comes_apart a r y small read.answer h))
 
 pub read_c_1 : Demand1Reading ReadsFromC
 read_c_1 =
     keeps_1 (λ book l.
     let (r, exit, read) = read_exists book l in
     let (s, given) = settings_exists book in
-    let word : (w : ℕ) → SettingAnswered book w (setting_word s w) =
+    let word : (w : ℕ) → SettingAnswered book w (unwrap_or (option_map (λ t. setting_word t w) s) 0) =
     λ w. record { settings = s; outcome = given; answer = refl } in
     (exit, _, _, (_, (_, record { reading = r; outcome = read; answer = refl }, (_, word, refl), (refl, refl)))))
     (λ book l y (s, p).
     let (q, (r, read, e, t)) = c_reads book l s y p in
-    (r.answer, read.answer, λ n. (read.refused n).1, t))
+    (answer_of r, read.answer, read_unchanged r read, t))
 
 -- ---- writing
 

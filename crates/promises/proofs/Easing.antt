@@ -12,8 +12,9 @@ use Rattle.terms.specs.declared.Signal.{Signal}
 use Rattle.terms.specs.Ranges.{SignalInRange, Repetition}
 use Rattle.terms.specs.Lists.{CountInRange, count, signal_at, group_of, groups, EachSignal}
 use Rattle.age.specs.Age.{IsAge, first_start, span_of}
+use Rattle.age.specs.AgeGiven.{frame_in}
 use Rattle.rule.specs.Rule.{Keeps, segment, Kept, Repetitions}
-use Rattle.rule.proofs.RuleLaws.{largest_grows, frame_in}
+use Rattle.rule.proofs.RuleLaws.{largest_grows}
 use Rattle.filling.specs.Filled.{needed}
 use Rattle.filling.proofs.LoadLaws.{needed_falls}
 use Rattle.promises.specs.Changes.{RaisedSignal, Eased}

@@ -12,9 +12,9 @@ use Rattle.laws.specs.Rows.{Row, Hold}
 use Rattle.laws.proofs.RowLaws.{Numbered, zero_holds, hold_rest}
 use Rattle.laws.proofs.DecidedLaws.{Decided, first_row, decided_join}
 use Rattle.terms.specs.declared.Settings.{Settings}
-use Rattle.terms.specs.declared.Answer.{Answer}
-use Rattle.terms.specs.declared.Answer.TheVariants.{Count, Setting, Field, Bound, Slots, Room}
-use Rattle.terms.specs.Answers.{number_of, place_of, Answers, room_row}
+use Rattle.std.specs.Prelude.{Err}
+use Rattle.terms.specs.declared.Refusal.TheVariants.{Count, Setting, Field, Bound, Slots, Room}
+use Rattle.terms.specs.Answers.{Answer, number_of, place_of, Answers, room_row}
 use Rattle.terms.specs.Requests.{Request, PlanRoom, request, plan_room}
 use Rattle.terms.specs.Ranges.{SettingsInRange}
 use Rattle.terms.specs.Lists.{count, group_of, groups}
@@ -37,18 +37,18 @@ use Rattle.promises.proofs.Deciding.{repetitions_exist, signals_decided, after_s
 
 signals_answerable : (s : Settings) (list : List ℕ) → Answerable (signal_rows s list)
 signals_answerable s list =
-    ((λ p l. (Field p, refl, refl)), ((λ p l. (Bound p, refl, refl)), ((λ p l. (Slots p, refl, refl)), tt)))
+    ((λ p l. (Err (Field p), refl, refl)), ((λ p l. (Err (Bound p), refl, refl)), ((λ p l. (Err (Slots p), refl, refl)), tt)))
 
 room_answer : {needs : ℕ} (p : ℕ) → p ≡ needs → (a : Answer) × (number_of a ≡ 10) × (place_of a ≡ p)
-room_answer p e = (Room p, refl, refl)
+room_answer p e = (Err (Room p), refl, refl)
 
 planning_answerable : (x : Request) (l : PlanRoom) → Answerable (planning_rows x l)
 planning_answerable x l =
     let signals = signals_answerable x.settings x.list in
-    ((λ p w. (Setting p, refl, refl)), ((λ p e. (Count, refl, sym e)), (room_answer, (room_answer, signals))))
+    ((λ p w. (Err (Setting p), refl, refl)), ((λ p e. (Err Count, refl, sym e)), (room_answer, (room_answer, signals))))
 
 bytes_answerable : (s : Settings) (list : List ℕ) (lent : ℕ) → Answerable (bytes_rows s list lent)
-bytes_answerable s list lent = ((λ p w. (Setting p, refl, refl)), (room_answer, signals_answerable s list))
+bytes_answerable s list lent = ((λ p w. (Err (Setting p), refl, refl)), (room_answer, signals_answerable s list))
 
 -- ---- an outcome for every input
 

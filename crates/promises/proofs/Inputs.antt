@@ -4,7 +4,7 @@ use Prim.Native.Nat.{ℕ, ◌/◌, ◌%◌}
 use lib.ListN.{get_or, replicate}
 use Rattle.terms.specs.declared.Settings.{Settings}
 use Rattle.terms.specs.declared.Signal.{Signal}
-use Rattle.terms.specs.declared.Result.{Result}
+use Rattle.terms.specs.declared.SignalResult.{SignalResult}
 use Rattle.terms.specs.Results.{words_of}
 use Rattle.terms.specs.Requests.{Request, request}
 use Rattle.book.specs.Blocks.{book_of}
@@ -31,11 +31,11 @@ abbrev pub list_of : List Signal → List ℕ
 list_of [] = []
 list_of (x ∷ xs) = x.unit ∷ x.period ∷ x.offset ∷ x.size ∷ x.bound ∷ list_of xs
 
-abbrev pub results_of : List Result → List ℕ
+abbrev pub results_of : List SignalResult → List ℕ
 results_of [] = []
 results_of (r ∷ rs) = words_of r ++ results_of rs
 
-abbrev pub result : (slot base repetition age : ℕ) → Result
+abbrev pub result : (slot base repetition age : ℕ) → SignalResult
 result slot base repetition age =
     record { frame = record { slot = slot; base = base; repetition = repetition }; age = age }
 

@@ -6,8 +6,7 @@ use Prim.Native.Nat.{ℕ, ◌*◌, ◌<◌}
 use native.Mathlib.Omega.{arith}
 use Rattle.laws.specs.Rows.{FirstRow}
 use Rattle.laws.proofs.RowLaws.{place_has}
-use Rattle.terms.specs.declared.Answer.{Answer}
-use Rattle.terms.specs.Answers.{place_of, packed_of, room_row}
+use Rattle.terms.specs.Answers.{Answer, place_of, packed_of, room_row}
 use Rattle.terms.specs.Ranges.{setting_row}
 use Rattle.terms.specs.Lists.{signal_size, count}
 use Rattle.book.specs.Blocks.{blocks_for, writing_rows}

@@ -1,14 +1,15 @@
 -- The calls as their caller sees them: what is asked, what is lent, what comes back; and for each routine the returns that its
 -- contract allows.
-use Rattle.std.specs.Prelude.{◌≡◌, List, ℕ, ◌/◌, ◌%◌}
+use Rattle.std.specs.Prelude.{◌≡◌, List, ℕ, ◌/◌, ◌%◌, Result, Ok, Err}
 use Rattle.terms.specs.declared.Settings.{Settings}
-use Rattle.terms.specs.declared.Answer.{Answer}
-use Rattle.terms.specs.Answers.{number_of, place_of}
+use Rattle.terms.specs.declared.Refusal.{Refusal}
+use Rattle.terms.specs.Answers.{Answer, number_of, place_of}
 use Rattle.terms.specs.Requests.{Request, PlanRoom}
 use Rattle.terms.specs.Ranges.{settings_from}
 use Rattle.planner.specs.Planned.{Planned}
 use Rattle.book.specs.declared.Reading.{Reading}
-use Rattle.book.specs.Outcomes.{ReadOutcome, WriteOutcome}
+use Rattle.book.specs.Reading.{five_zeros}
+use Rattle.book.specs.Outcomes.{answer_of, ReadOutcome, WriteOutcome}
 use Rattle.editor.specs.Answered.{ReadAnswered, SettingAnswered, WriteAnswered, PlanAnswered, BookAnswered}
 
 -- what comes back: the answer's number and place, and what was lent, at exit
@@ -49,9 +50,15 @@ PlansList x l y = (r : ℕ) × PlanAnswered x l r y.lent × Halves r y
 abbrev pub PlansBook : Routine (List ℕ) (List ℕ)
 PlansBook book l y = (r : ℕ) × BookAnswered book l r y.lent × Halves r y
 
+-- the settings of a reading; a refusal has none, so they stand as five zeros
+abbrev pub settings_read : Result Reading Refusal → Settings
+settings_read (Ok r) = r.settings
+settings_read (Err e) = five_zeros
+
 -- `book::read`, which gives settings too; and `noctelvia_read`, beside which `noctelvia_setting` gives them word by word
 abbrev pub Reads : Settings → Routine (List ℕ) (List ℕ)
-Reads s book l y = (r : Reading) × ReadOutcome book l r y.lent × (s ≡ r.settings) × Tells r.answer y
+Reads s book l y =
+    (r : Result Reading Refusal) × ReadOutcome book l r y.lent × (s ≡ settings_read r) × Tells (answer_of r) y
 
 abbrev pub ReadsFromC : Settings → Routine (List ℕ) (List ℕ)
 ReadsFromC s book l y =

@@ -10,7 +10,7 @@ use Rattle.terms.specs.Ranges.{FrameInRange}
 use Rattle.age.specs.Age.{Start, Release, first_start, span_of, Age}
 use Rattle.terms.specs.Requests.{Request, PlanRoom}
 use Rattle.terms.specs.Lists.{signal_size, count, signal_at}
-use Rattle.terms.specs.declared.Result.{Result}
+use Rattle.terms.specs.declared.SignalResult.{SignalResult}
 use Rattle.terms.specs.Results.{result_size, result_at}
 use Rattle.cycles.specs.Frames.{Sends}
 use Rattle.filling.specs.Shown.{cell_of}
@@ -37,7 +37,7 @@ StartsAt s At t = (n k : ℕ) × At k (n % 64) × (t ≡ n * s.cycle + (k - 1) *
 
 -- "The age shown is the largest, over all of them, from release to the end of the first frame that starts at least the packing
 -- time later." The frame is one of the segment, and its starts are the cycles that its base and repetition name
-pub record AgeShown (s : Settings) (x : Signal) (r : Result) : Type 0 where
+pub record AgeShown (s : Settings) (x : Signal) (r : SignalResult) : Type 0 where
   pub releases : Releases x.offset x.period
   pub frame : FrameInRange s.slots r.frame
   pub starts : (t : ℕ) → Start (first_start s r.frame) (span_of s r.frame) t ↔ StartsAt s (Sends r.frame) t

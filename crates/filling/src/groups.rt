@@ -1,4 +1,4 @@
-// The groups of the signals: their loads, and the slots before each.
+// The signals of a list with their repetitions and groups: the load of each group, and how it begins.
 ghost use Rattle.std.specs.Prelude.{◌≡◌, MatchOption};
 ghost use Rattle.terms.specs.Lists.{group_of};
 ghost use Rattle.filling.specs.Outcomes.{Grouped};

@@ -15,7 +15,7 @@ use Rattle.book.specs.declared.Reading.{Reading}
 use Rattle.book.specs.Outcomes.{answer_of, ReadOutcome}
 use Rattle.editor.specs.Answered.{SettingAnswered, BookPlanned}
 use Rattle.planner.proofs.PlaceLaws.{planning_small}
-use Rattle.promises.specs.Calls.{Return, Routine, Always, Tells, settings_read, Plans, PlansList, PlansBook, Reads, ReadsFromC, Writes, WritesFromC}
+use Rattle.promises.specs.Calls.{Return, Routine, Always, Tells, settings_in_reading, Plans, PlansList, PlansBook, Reads, ReadsFromC, Writes, WritesFromC}
 use Rattle.promises.specs.Demand1.{Demand1, Demand1Planning, Demand1Reading, Demand1Writing, Demand1Editor}
 use Rattle.book.proofs.ReadLaws.{read_exists, settings_exists}
 use Rattle.book.proofs.WriteLaws.{write_exists}
@@ -84,7 +84,7 @@ pub read_1 : Demand1Reading Reads
 read_1 =
     keeps_1 (λ book l.
     let (r, exit, read) = read_exists book l in
-    (exit, _, _, (settings_read r, (r, read, refl, (refl, refl)))))
+    (exit, _, _, (settings_in_reading r, (r, read, refl, (refl, refl)))))
     (λ book l y (s, (r, read, e, t)). (answer_of r, read.answer, read_unchanged r read, t))
 
 -- the C calls give what reading gives, but for the settings where it refuses
@@ -92,7 +92,7 @@ pub c_reads : (book l : List ℕ) (s : Settings) (y : Return (List ℕ)) → Rea
 c_reads book l s y (r, read, e, h) =
     let a = answer_of read.reading in
     let small = reading_small book (length l) _ _ read.outcome.answer in
-    (settings_read read.reading, (read.reading, read.outcome, refl, comes_apart a r y small read.answer h))
+    (settings_in_reading read.reading, (read.reading, read.outcome, refl, comes_apart a r y small read.answer h))
 
 pub read_c_1 : Demand1Reading ReadsFromC
 read_c_1 =

@@ -26,7 +26,7 @@ use Rattle.book.proofs.SoundLaws.{sound_length, sound_or_not}
 use Rattle.editor.specs.Rows.{result_bytes}
 use Rattle.book.proofs.ReadLaws.{read_gives}
 use Rattle.book.proofs.RoundTrips.{write_then_read, read_then_write}
-use Rattle.promises.specs.Calls.{Return, Routine, WhereDone, Tells, settings_read, Plans, PlansList, PlansBook, Reads, ReadsFromC, Writes, WritesFromC}
+use Rattle.promises.specs.Calls.{Return, Routine, WhereDone, Tells, settings_in_reading, Plans, PlansList, PlansBook, Reads, ReadsFromC, Writes, WritesFromC}
 use Rattle.promises.specs.Shows.{frame_of, over_words}
 use Rattle.promises.specs.Demand2.{TableShown, Demand2Planning, Demand2Editor, Demand2Books, WrittenBack}
 use Rattle.promises.proofs.Accepted.{WordsFound, words_found, list_found, book_found, drawn, ages_shown, plan_accepted}
@@ -83,7 +83,7 @@ plan_book_2 =
 
 -- what a reading gives where its number is 0
 record Accepted (b l : List ℕ) (r : Result Reading Refusal) (exit : List ℕ) : Type 0 where
-  settings : settings_read r ≡ settings_in b
+  settings : settings_in_reading r ≡ settings_in b
   list : exit ≡ list_in b ++ drop (signal_size * signals_of b) l
 
 accepted : {b l exit : List ℕ} (r : Result Reading Refusal) → ReadOutcome b l r exit → number_of (answer_of r) ≡ 0
@@ -92,13 +92,13 @@ accepted (Ok x) read z = record { settings = read.done.0; list = read.done.1 }
 accepted (Err e) read z = absurd (refusal_numbered e z)
 
 -- and the settings where it is not
-refused_zeros : (r : Result Reading Refusal) → (number_of (answer_of r) ≡ 0 → ⊥) → settings_read r ≡ five_zeros
+refused_zeros : (r : Result Reading Refusal) → (number_of (answer_of r) ≡ 0 → ⊥) → settings_in_reading r ≡ five_zeros
 refused_zeros (Ok x) n = absurd (n refl)
 refused_zeros (Err e) n = refl
 
 -- what is read is written back
 bytes_back : {s : Settings} {book l room : List ℕ} {y w : Return (List ℕ)} (r : Result Reading Refusal)
-    → ReadOutcome book l r y.lent → s ≡ settings_read r → Tells (answer_of r) y → y.number ≡ 0 → AllBelow 256 book
+    → ReadOutcome book l r y.lent → s ≡ settings_in_reading r → Tells (answer_of r) y → y.number ≡ 0 → AllBelow 256 book
     → Writes (record { settings = s; list = take (signal_size * y.place) y.lent }) room w → length book ≤ length room
     → WrittenBack book room w
 bytes_back (Err f) read e t z bytes gives enough = absurd (refusal_numbered f (sym t.0 ∙ z))
@@ -128,7 +128,7 @@ books_2 =
           record {
             accepted = u.0 ∙ ap (λ q. number_of (answer_of q)) given.0;
             signals = u.1 ∙ ap (λ q. place_of (answer_of q)) given.0;
-            settings = e ∙ ap settings_read given.0;
+            settings = e ∙ ap settings_in_reading given.0;
             words = given.1;
           };
       same_bytes = λ s book l y (r, read, e, t) z bytes x room w gives same enough.

@@ -51,14 +51,14 @@ abbrev pub PlansBook : Routine (List ℕ) (List ℕ)
 PlansBook book l y = (r : ℕ) × BookAnswered book l r y.lent × Halves r y
 
 -- the settings of a reading; a refusal has none, so they stand as five zeros
-abbrev pub settings_read : Result Reading Refusal → Settings
-settings_read (Ok r) = r.settings
-settings_read (Err e) = five_zeros
+abbrev pub settings_in_reading : Result Reading Refusal → Settings
+settings_in_reading (Ok r) = r.settings
+settings_in_reading (Err e) = five_zeros
 
 -- `book::read`, which gives settings too; and `noctelvia_read`, beside which `noctelvia_setting` gives them word by word
 abbrev pub Reads : Settings → Routine (List ℕ) (List ℕ)
 Reads s book l y =
-    (r : Result Reading Refusal) × ReadOutcome book l r y.lent × (s ≡ settings_read r) × Tells (answer_of r) y
+    (r : Result Reading Refusal) × ReadOutcome book l r y.lent × (s ≡ settings_in_reading r) × Tells (answer_of r) y
 
 abbrev pub ReadsFromC : Settings → Routine (List ℕ) (List ℕ)
 ReadsFromC s book l y =

@@ -1,7 +1,7 @@
 -- Laws of what the routines of this room give: outcomes that satisfy a contract are equal, an age that is given in
 -- range is not 0, and a wait given of a frame's numbers makes its age.
 use mathlib.Core.Path.{◌≡◌}
-use Prim.Native.Nat.{ℕ, ◌+◌, ◌-◌, ◌%◌, ◌<◌}
+use Prim.Native.Nat.{ℕ, ◌+◌, ◌-◌, ◌%◌, ◌≤◌, ◌<◌}
 use native.Mathlib.Nat.{mod-lt}
 use native.Mathlib.Omega.{arith}
 use Rattle.std.specs.Prelude.{Option, unwrap_or, IsSome, ◌↔◌}
@@ -11,10 +11,10 @@ use Rattle.terms.specs.declared.Settings.{Settings}
 use Rattle.terms.specs.declared.Signal.{Signal}
 use Rattle.terms.specs.declared.Frame.{Frame}
 use Rattle.laws.specs.Divisor.{IsGcd}
-use Rattle.laws.proofs.DivisorLaws.{divisor_at_most}
+use Rattle.laws.proofs.DivisorLaws.{gcd_positive, divisor_at_most}
 use Rattle.age.specs.Age.{IsAge, first_start, span_of}
 use Rattle.age.specs.Formula.{Remainder}
-use Rattle.age.proofs.FormulaLaws.{longest_unique, longest_from_top}
+use Rattle.age.proofs.FormulaLaws.{longest_unique, longest_from_top, remainder_ahead}
 use Rattle.age.proofs.AgeLaws.{age_unique, formula_is_age}
 use Rattle.age.proofs.SpanLaws.{age_at_least_slot}
 use Rattle.age.specs.AgeGiven.{InRange, AgeGiven, LongestGiven}
@@ -43,6 +43,11 @@ module _ (limit n g : ℕ) where
       → LongestGiven limit n g (unwrap_or b 0) → IsSome b ↔ (0 < g) × (n % g < limit) → a ≡ b
   longest_wait_unique a b p i q j = same_where a b i j (longest_given_unique (unwrap_or a 0) (unwrap_or b 0) p q)
 
+  pub longest_given_most : (w : ℕ) → LongestGiven limit n g w → w ≤ limit
+  longest_given_most w p =
+      let never : limit < w → ⊥ = λ h. omega (arith, p.outside (λ v. omega (arith, (p.inside v).below))) in
+      omega arith
+
   -- from the top down
   pub longest_given : 0 < g → n % g < limit → LongestGiven limit n g (limit - 1 - (limit - 1 - n % g) % g)
   longest_given h b = given_inside _ _ _ (h, b) (longest_from_top limit g (n % g) (mod-lt n h) b)
@@ -56,3 +61,24 @@ module _ (first span packing slot offset period g n : ℕ) (f : first < span) (t
   pub given_age : (w : ℕ) → LongestGiven (packing + span) n g w → IsAge first span packing slot offset period (w + slot)
   given_age w p =
       formula_is_age first span packing slot offset period g (n % g) w f t c m (p.inside (omega (arith, m.below), leaves_below))
+
+-- such a number is the first start and what the offset lacks of a multiple of g; and an age is made so
+module _ (first span packing slot offset period g : ℕ) (f : first < span) (t : 0 < period)
+    (c : IsGcd period span g) where
+  positive : 0 < g
+  positive = gcd_positive period span g c (omega arith)
+
+  abbrev ahead : ℕ
+  ahead = first + (g - offset % g)
+
+  remains : Remainder first offset g (ahead % g)
+  remains = remainder_ahead first offset g positive
+
+  pub given_age_ahead : (w : ℕ) → LongestGiven (packing + span) ahead g w → IsAge first span packing slot offset period (w + slot)
+  given_age_ahead = given_age first span packing slot offset period g ahead f t c remains
+
+  pub age_given : (a : ℕ) → IsAge first span packing slot offset period a
+      → (w : ℕ) × LongestGiven (packing + span) ahead g w × (a ≡ w + slot)
+  age_given a p =
+      let given = longest_given (packing + span) ahead g positive (leaves_below first span packing slot offset period g ahead f t c remains) in
+      (_, given, age_unique first span packing slot offset period a _ p (given_age_ahead _ given))

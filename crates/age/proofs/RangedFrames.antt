@@ -1,4 +1,4 @@
--- What the ranges say of a frame's numbers: its first start lies before its span ends, and its span is short.
+-- What the ranges say of a frame's numbers: its first start lies before its span ends, and all are small.
 use Prim.Native.Nat.{◌+◌, ◌-◌, ◌≤◌, ◌<◌}
 use native.Mathlib.Nat.{mul-le-mul_right, mul-le-mul}
 use native.Mathlib.Omega.{arith}
@@ -22,6 +22,8 @@ first_below s f v h l =
 pub record FrameBounded (s : Settings) (x : Signal) (f : Frame) : Type 0 where
   pub first_below : first_start s f < span_of s f
   pub span_most : span_of s f ≤ 1024000
+  pub packing_most : s.packing ≤ 16000
+  pub slot_most : s.slot ≤ 16000
   pub period_least : 0 < x.period
 
 pub frame_bounded : (s : Settings) (x : Signal) (f : Frame) → InRange s x f → FrameBounded s x f

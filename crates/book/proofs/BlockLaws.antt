@@ -2,7 +2,7 @@
 -- block; what stands in a block that is written.
 -- Assumes nothing.
 use Rattle.std.proofs.Common.{◌≡◌, ℕ, zero, suc, ◌+◌, ◌-◌, ◌*◌, ◌<◌, ◌≤◌, min, List, [], ◌∷◌, length, get_or, drop}
-use Rattle.std.proofs.Common.{refl, ◌∙◌, subst, arith, lit≤, length-drop, length-take, get_or-drop, get_or-take}
+use Rattle.std.proofs.Common.{refl, ap, ◌∙◌, subst, arith, lit≤, length-drop, length-take, get_or-drop, get_or-take}
 use Rattle.std.proofs.Common.{ne_eqb}
 use Rattle.std.proofs.Math.ListN.{get_or-eq_default}
 use Rattle.std.specs.Prelude.{Bool, true, false}
@@ -13,6 +13,7 @@ use Rattle.laws.specs.Says.{Says}
 use Rattle.laws.specs.Lowest.{EachTo, LowestWithout}
 use Rattle.laws.proofs.LowestLaws.{lowest_not_each}
 use Rattle.terms.specs.declared.Settings.{Settings}
+use Rattle.terms.specs.Ranges.{setting_word}
 use Rattle.terms.specs.Lists.{signal_size, count, CountInRange}
 use Rattle.book.specs.Words.{check_of}
 use Rattle.book.specs.Blocks.{kind_of, per_block, section_size, settings_words, signal_words, content_of}
@@ -61,6 +62,24 @@ pub each_at : (P : ℕ → ℕ → Type 0) (l : List ℕ) → EachAt P l → (d 
 each_at P [] each d h = absurd (omega arith)
 each_at P (x ∷ l) each zero h = each.0
 each_at P (x ∷ l) each (suc d) h = each_at (λ d. P (suc d)) l each.1 d (omega arith)
+
+-- what holds of every later block holds of a block that is not block 0
+pub later : (P : ℕ → Type 0) → ((k : ℕ) → P (suc k)) → (k : ℕ) → (k ≡ 0 → ⊥) → P k
+later P h zero n = absurd (n refl)
+later P h (suc k) n = h k
+
+-- behind number and kind
+pub body_content : (s : Settings) (l : List ℕ) (k w : ℕ) → 2 ≤ w → get_or (content_of s l k) (w - 2) 0 ≡ body_word s l k w
+body_content s l k w h = let place : suc (suc (w - 2)) ≡ w = omega arith in ap (body_word s l k) place
+
+-- a setting stands at the word that its table says
+pub setting_listed : (s : Settings) (m w : ℕ) → 2 ≤ w → w < 7 → setting_word s w ≡ get_or (settings_words s m) (w - 2) 0
+unfolding settings_words
+setting_listed s m w low high =
+    let place : suc (suc (w - 2)) ≡ w = omega arith in
+    rw place at (each_at (λ d x. d < 5 → setting_word s (suc (suc d)) ≡ x) (settings_words s m)
+    (λ h. refl, (λ h. refl, (λ h. refl, (λ h. refl, (λ h. refl, (λ h. absurd (omega arith), tt))))))
+    (w - 2) (omega arith) (omega arith))
 
 -- the words of a signal block behind its share are those of the list
 pub signal_listed : (l : List ℕ) (k d : ℕ) → d < section_size

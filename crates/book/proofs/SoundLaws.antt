@@ -7,7 +7,7 @@ use mathlib.Core.Logic.Dec
 use mathlib.Core.Logic.{dite}
 use native.Mathlib.Decide.{ℕ_discrete, dec_le, dec_lt, map_dec}
 use Rattle.laws.specs.Rows.{Hold}
-use Rattle.laws.proofs.RowLaws.{numbered_join, single_join, Numbered, Single, zero_holds}
+use Rattle.laws.proofs.RowLaws.{numbered_join, single_join, Numbered, Single, zero_holds, not_zero_fails}
 use Rattle.laws.proofs.LowestLaws.{lowest_one, lowest_not_each}
 use Rattle.laws.proofs.DecidedLaws.{Decided, first_row, decided_hold, decided_row, lowest_or_each}
 use Rattle.std.specs.Prelude.{Result, Ok, Err, IsErrAnd, MatchResult, Bool, true, false}
@@ -70,9 +70,12 @@ module _ (b : List ℕ) (lent : ℕ) where
       single_join (book_rows b) (room_row (signal_size * signals_of b) lent ∷ []) (book_single b)
       ((λ p q d e. omega arith), tt)
 
-pub judged_sound : (b : List ℕ) (a : Answer) → Answers (book_rows b) (λ p. p ≡ signals_of b) a → number_of a ≡ 0
-    → Hold (book_rows b) × (place_of a ≡ signals_of b)
-judged_sound b a = zero_holds (λ p. p ≡ signals_of b) (number_of a) (place_of a) (book_rows b) (book_numbered b)
+module _ (b : List ℕ) (a : Answer) (f : Answers (book_rows b) (λ p. p ≡ signals_of b) a) where
+  pub judged_sound : number_of a ≡ 0 → Hold (book_rows b) × (place_of a ≡ signals_of b)
+  judged_sound = zero_holds (λ p. p ≡ signals_of b) (number_of a) (place_of a) (book_rows b) (book_numbered b) f
+
+  pub judged_unsound : (number_of a ≡ 0 → ⊥) → Hold (book_rows b) → ⊥
+  judged_unsound = not_zero_fails (λ p. p ≡ signals_of b) (number_of a) (place_of a) (book_rows b) f
 
 -- block k without the fact, and every one before it with it
 first_block : (b : List ℕ) (P : ℕ → Type 0) (k : ℕ) → k < blocks_in b → (P k → ⊥) → ((j : ℕ) → j < k → P j)

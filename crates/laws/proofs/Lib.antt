@@ -13,3 +13,4 @@ pub mod Orders
 pub mod SumLaws
 pub mod DecidedLaws
 pub mod OptionLaws
+pub mod LentLaws

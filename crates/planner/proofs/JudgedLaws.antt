@@ -8,8 +8,10 @@ use native.Mathlib.Omega.{arith}
 use lib.ListN.{length, set}
 use lib.Seq.{get_or-set_same, get_or-set_other}
 use Rattle.std.specs.Prelude.{Err}
+use Rattle.laws.specs.Lowest.{LowestWithout}
 use Rattle.laws.proofs.LowestLaws.{Reached, reached_next, reached_all, reached_fails, lowest_not_each}
 use Rattle.terms.specs.declared.Settings.{Settings}
+use Rattle.terms.specs.declared.Signal.{Signal}
 use Rattle.terms.specs.declared.Refusal.TheVariants.{Field, Bound}
 use Rattle.terms.specs.Ranges.{SignalInRange, Repetition}
 use Rattle.terms.specs.Lists.{count, signal_at, EachSignal}
@@ -78,9 +80,13 @@ module _ {s : Settings} {list words : List ℕ} {i : ℕ} (f : Reached (count li
     found_there {r} long given seven =
         found_next (omega (arith, f.first, right.right.few)) l (largest_given given) (repetition_positive r seven)
 
-    -- where it is 0, i is the place of 8
+    -- where it is 0, the search has found the lowest signal that gets none, and i is the place of 8
+    pub found_none : {x : Signal} {r : ℕ} → x ≡ signal_at list i → RepetitionGiven s x r → r ≡ 0
+        → LowestWithout (count list) (λ j. Kept s (signal_at list j)) i
+    found_none e given z =
+        let largest = (largest_given (rw e at given)).largest in
+        reached_fails (count list) (λ j. Kept s (signal_at list j)) i kept_so_far l
+        (λ k. omega (arith, z, largest k.0 k.1 k.2, repetition_positive k.0 k.1))
+
     pub bound_refused : RepetitionGiven s (signal_at list i) 0 → Answers (bound_row s list ∷ []) (λ p. ⊥) (Err (Bound i))
-    bound_refused given =
-        let none : Kept s (signal_at list i) → ⊥ = λ k. omega (arith, (largest_given given).largest k.0 k.1 k.2, repetition_positive k.0 k.1) in
-        let low = reached_fails (count list) (λ j. Kept s (signal_at list j)) i kept_so_far l none in
-        inl (lowest_not_each _ _ i low, refl, low)
+    bound_refused given = let low = found_none refl given refl in inl (lowest_not_each _ _ i low, refl, low)

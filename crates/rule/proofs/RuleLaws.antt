@@ -13,7 +13,7 @@ use lib.Pow.{pow_mono}
 use Rattle.laws.proofs.Tests.{at}
 use borrow.Author.Tests.{leb-true, leb-false}
 use native.Mathlib.Decide.{ℕ_discrete, dec_le}
-use native.Mathlib.Nat.{lt_of_not-le, mul_assoc}
+use native.Mathlib.Nat.{lt_of_not-le, mul_assoc, mul-pos, mul-le-mul}
 use native.Mathlib.Omega.{arith}
 use Rattle.laws.specs.Says.{Says}
 use Rattle.laws.proofs.SaysLaws.{says, says_same}
@@ -26,7 +26,7 @@ use Rattle.terms.specs.declared.Signal.{Signal}
 use Rattle.terms.specs.declared.Frame.{Frame}
 use Rattle.laws.specs.Lowest.{Between}
 use Rattle.terms.specs.Ranges.{Valid, Repetition}
-use Rattle.terms.proofs.RepetitionLaws.{repetition_multiple, repetition_positive}
+use Rattle.terms.proofs.RepetitionLaws.{repetition_multiple, repetition_positive, repetition_most}
 use Rattle.age.specs.Age.{Age}
 use Rattle.age.specs.declared.Frames.{Frames}
 use Rattle.age.specs.AgeGiven.{frame_in, InRange, AgeGiven}
@@ -61,6 +61,10 @@ pub keeps_each : (s : Settings) (x : Signal) (R : ℕ) → Keeps s x (segment s)
 keeps_each s x R keeps b h k l a p = keeps (k + 1) b a (among 1 s.slots (k + 1) (omega arith) (omega arith)) h p
 
 module _ (s : Settings) (x : Signal) (v : Valid s x) where
+  pub span_range : (R : ℕ) → Repetition R → Between 1 1024000 (R * s.cycle)
+  span_range R r =
+      (mul-pos (repetition_positive R r) (omega arith), mul-le-mul {m₂ = 16000} (repetition_most R r) (omega arith))
+
   -- "If some R keeps it, every smaller one does."
   pub smaller_keeps : (slots : List ℕ) → ((k : ℕ) → Memᴰ k slots → Between 1 s.slots k) → (Q R : ℕ)
       → Repetition Q → Repetition R → Q ≤ R → Keeps s x slots R → Keeps s x slots Q

@@ -1,8 +1,9 @@
 -- Laws of the seven repetitions, once over the exponent: they are from 1 to 64, a larger one is a multiple of a smaller
--- one, and a smaller one is at most the half.
+-- one, a smaller one is at most the half, and the half of one is one, or 0.
 use mathlib.Core.Path.{◌≡◌, ◌∙◌, sym, ap, subst}
+use mathlib.Core.Logic.{◌⊎◌, inl, inr}
 use Prim.Native.Nat.{ℕ, zero, suc, ◌+◌, ◌*◌, ◌-◌, ◌/◌, ◌^◌, ◌≤◌, ◌<◌}
-use native.Mathlib.Nat.{lt_of_not-le}
+use native.Mathlib.Nat.{lt_of_not-le, two-pow-succ}
 use native.Mathlib.Omega.{arith}
 use lib.Pow.{pow_pos, pow_mono, pow-add}
 use Rattle.terms.specs.Ranges.{Repetition}
@@ -22,6 +23,10 @@ repetition_multiple Q R (d, i, p) (e, j, q) h =
     let order = exponent_below d (suc e) (omega (arith, pow_pos e)) in
     let sum : e ≡ e - d + d = omega arith in
     (2 ^ (e - d), q ∙ ap (λ (n : ℕ). 2 ^ n) sum ∙ rw p (pow-add 2 (e - d) d))
+
+pub half_repetition : (R : ℕ) → Repetition R → (R / 2 ≡ 0) ⊎ Repetition (R / 2)
+half_repetition R (zero, h, p) = inl (omega arith)
+half_repetition R (suc e, h, p) = inr (e, omega arith, omega (arith, p, two-pow-succ e))
 
 -- a repetition below another is at most its half
 pub below_half : (Q R : ℕ) → Repetition Q → Repetition R → Q < R → Q ≤ R / 2

@@ -52,9 +52,12 @@ is_repetition_unique R = says_unique (Repetition R)
 pub frame_in_range_unique : (s : Settings) (f : Frame) (a b : Bool) → Says (FrameInRange s.slots f) a → Says (FrameInRange s.slots f) b → a ≡ b
 frame_in_range_unique s f = says_unique (FrameInRange s.slots f)
 
+pub one_setting_word : (s : Settings) (w q r : ℕ) → q ≡ setting_word s w → r ≡ setting_word s w → q ≡ r
+one_setting_word s w q r d e = d ∙ sym e
+
 pub setting_word_unique : (s : Settings) (w : ℕ) (q r : Option ℕ) → unwrap_or q 0 ≡ setting_word s w → IsSome q ↔ (2 ≤ w) × (w ≤ 6)
     → unwrap_or r 0 ≡ setting_word s w → IsSome r ↔ (2 ≤ w) × (w ≤ 6) → q ≡ r
-setting_word_unique s w q r d f e g = same_where q r f g (d ∙ sym e)
+setting_word_unique s w q r d f e g = same_where q r f g (one_setting_word s w (unwrap_or q 0) (unwrap_or r 0) d e)
 
 pub count_unique : (list : List ℕ) (q r : ℕ) → q ≡ count list → r ≡ count list → q ≡ r
 count_unique list q r d e = d ∙ sym e

@@ -78,10 +78,13 @@ impl Frames {
     }
 }
 
-// The age of signal x in frame f.
+// The age of signal x in frame f. The frame is judged first, so that no divisor is sought for one that is out of range.
 pub fn age(s: Settings, x: Signal, f: Frame) -> Option<u32>
     ensures given { AgeGiven s x f (unwrap_or result 0) }
     ensures some { IsSome result ↔ InRange s x f }
 {
+    if !terms::frame_in_range(s, f) {
+        return None;
+    }
     Frames::of(s, x, f.repetition)?.age(f.slot, f.base)
 }

@@ -33,6 +33,9 @@ pub fn repetition(s: Settings, x: Signal) -> Option<u32>
     ensures given { RepetitionGiven s x (unwrap_or result 0) }
     ensures some { IfSome result Repetition }
 {
+    if !terms::valid(s, x) {
+        return None;
+    }
     [64, 32, 16, 8, 4, 2, 1]
         .iter()
         .copied()

@@ -20,4 +20,4 @@ returns c =
     (all_says s.slots (λ k. InRange s x (f k) × KeptIn s x (f k))
     (λ k q h call. let found : (o : Option ℕ) × AgeGiven s x (f k) (unwrap_or o 0) × (IsSome o ↔ InRange s x (f k))
     × MatchOption o (q ≡ false) (λ v. q ≡ nat_le v x.bound) = search rules in
-    (search rules, found_says s x _ found.0 q found.1 found.2 found.3)) refl _ c.all.result c.all.ensures.ran)
+    (search rules, found_says s x _ found.0 q found.1 found.2 found.3)) (search rules) _ c.all.result c.all.ensures.ran)

@@ -1,13 +1,12 @@
 -- Laws of planning: what was judged fits the filling, and what comes of both is planned.
 -- Assumes nothing.
-use mathlib.Core.Path.{◌≡◌, refl, ap, ◌∙◌}
+use mathlib.Core.Path.{◌≡◌, refl}
 use mathlib.Core.List.{List, [], ◌∷◌}
 use mathlib.Core.Logic.{inl, inr}
 use Prim.Native.Nat.{ℕ}
 use native.Mathlib.Omega.{arith}
 use lib.ListN.{length}
-use Rattle.std.specs.Prelude.{Result, Ok, Err, MatchResult, IsErrAnd}
-use Rattle.std.proofs.lemmas.Result.{err_from_is_err_and}
+use Rattle.std.specs.Prelude.{Result, Ok, Err}
 use Rattle.laws.specs.Rows.{Row, FirstRow, Hold}
 use Rattle.laws.specs.Lowest.{EachTo}
 use Rattle.laws.proofs.RowLaws.{pass, refused_front}
@@ -28,7 +27,7 @@ use Rattle.filling.specs.Outcomes.{repetition_in, Fillable, FillOutcome}
 use Rattle.filling.specs.Outcomes.FillOutcome.{unfit, short, done}
 use Rattle.planner.specs.Rows.{Needed, slots_row, planning_rows}
 use Rattle.planner.specs.Planned.{Planned}
-use Rattle.planner.specs.Judged.{judged_rows, Found, refusal_of}
+use Rattle.planner.specs.Judged.{judged_rows, Found, answer_of}
 
 module _ (s : Settings) (list : List ℕ) (R : ℕ → ℕ) (r : Repetitions s list R) where
   -- where each signal's bound is kept, its repetition is one of the seven
@@ -48,17 +47,6 @@ module _ (s : Settings) (list : List ℕ) (R : ℕ → ℕ) (r : Repetitions s l
 -- the rows that were judged
 abbrev judged : Request → PlanRoom → List Row
 judged x lent = judged_rows x (length lent.cells) (length lent.results)
-
--- the answer of what filling gives
-abbrev pub filled_answer : Result ℕ Unfilled → Answer
-filled_answer (Ok n) = Ok n
-filled_answer (Err u) = Err (refusal_of u)
-
--- what is told of each case of a result tells it
-filled_told : (f : Result ℕ Unfilled) (r : Answer) → MatchResult f (λ n. r ≡ Ok n) (λ u. IsErrAnd r (λ e. e ≡ refusal_of u))
-    → r ≡ filled_answer f
-filled_told (Ok n) r c = c
-filled_told (Err u) r c = let (e, is, same) = err_from_is_err_and r c in is ∙ ap (λ (z : Refusal). Err z) same
 
 module _ {x : Request} (lent : PlanRoom) where
   -- the judge's refusal is planning's
@@ -94,7 +82,7 @@ module _ {x : Request} (lent : PlanRoom) where
     asked n p = pass (slots_row x.settings x.list ∷ []) (Needed x.settings x.list) n p (judged x lent) held
 
     pub planned_filled : {f : Result ℕ Unfilled} {exit : PlanRoom} → FillOutcome x words lent f exit
-        → Planned x lent (filled_answer f) exit
+        → Planned x lent (answer_of f) exit
     planned_filled (unfit n) = absurd (n fillable)
     planned_filled (short h l) =
         let over : (slots_row x.settings x.list).holds → ⊥ =
@@ -112,8 +100,3 @@ module _ {x : Request} (lent : PlanRoom) where
           refused = λ n. absurd (n refl);
           done = λ z. record { R = repetition_in words; repetitions = found.repetitions; cells = cells; results = results };
         }
-
-    -- and as its refusals are turned into planning's
-    pub planned_mapped : {f : Result ℕ Unfilled} {r : Answer} {exit : PlanRoom} → FillOutcome x words lent f exit
-        → MatchResult f (λ n. r ≡ Ok n) (λ u. IsErrAnd r (λ e. e ≡ refusal_of u)) → Planned x lent r exit
-    planned_mapped {f} {r} outcome told = rw (filled_told f r told) (planned_filled outcome)

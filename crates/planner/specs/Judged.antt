@@ -1,10 +1,10 @@
--- For private contracts alone: what the judge asks and finds before the table is filled, and the refusal after that.
+-- For private contracts alone: what the judge asks and finds before the table is filled, and the answer after that.
 use Rattle.std.specs.Prelude.{◌≡◌, List, [], ◌∷◌, ◌++◌, ℕ, length, Result, Ok, Err}
 use Rattle.laws.specs.Rows.{Row, Hold}
 use Rattle.terms.specs.declared.Settings.{Settings}
 use Rattle.terms.specs.declared.Refusal.{Refusal}
 use Rattle.terms.specs.declared.Refusal.TheVariants as refusal
-use Rattle.terms.specs.Answers.{Answers}
+use Rattle.terms.specs.Answers.{Answer, Answers}
 use Rattle.terms.specs.Requests.{Request}
 use Rattle.terms.specs.Ranges.{SettingsInRange, SignalInRange}
 use Rattle.terms.specs.Lists.{CountInRange, EachSignal}
@@ -35,8 +35,9 @@ abbrev pub judged_rows : Request → (cells results : ℕ) → List Row
 judged_rows x cells results =
     lent_rows x cells results ++ (field_row x.settings x.list ∷ bound_row x.settings x.list ∷ [])
 
--- planning's refusal where filling gives none
-abbrev pub refusal_of : Unfilled → Refusal
-refusal_of (Short n) = refusal.Slots n
-refusal_of (Taken i) = refusal.Taken i
-refusal_of Unfit = refusal.Taken 0
+-- planning's answer of what filling gives
+abbrev pub answer_of : Result ℕ Unfilled → Answer
+answer_of (Ok n) = Ok n
+answer_of (Err (Short n)) = Err (refusal.Slots n)
+answer_of (Err (Taken i)) = Err (refusal.Taken i)
+answer_of (Err Unfit) = Err (refusal.Taken 0)

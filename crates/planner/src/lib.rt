@@ -5,7 +5,7 @@
 ghost use Rattle.terms.specs.Requests.{request, plan_room};
 ghost use Rattle.std.specs.Prelude.{◌≡◌};
 ghost use Rattle.planner.specs.Planned.{Planned};
-ghost use Rattle.planner.specs.Judged.{refusal_of};
+ghost use Rattle.planner.specs.Judged.{answer_of};
 
 use filling::Unfilled;
 use terms::{Answer, Refusal, Settings};
@@ -13,21 +13,23 @@ use terms::{Answer, Refusal, Settings};
 mod judge;
 
 // The plan of a list under settings: 64 cells a slot, a result a signal.
+#[tactic(auto, using(crate::proofs::PlannedLaws::planned_filled))]
 pub fn plan(s: Settings, list: &[u32], cells: &mut [u32], results: &mut [u32]) -> Answer
     ensures { Planned (request s list.now) (plan_room cells.old results.old) result
         (plan_room cells.new results.new) }
 {
     let repetitions = judge::judge(s, list, cells.len(), results.len())?;
-    filling::fill(s, list, &repetitions, cells, results).map_err(refusal_of)
+    answered(filling::fill(s, list, &repetitions, cells, results))
 }
 
-// A list that was judged fits, and no frame is in trouble. It is no `From`: neither type is of this crate.
-fn refusal_of(unfilled: Unfilled) -> Refusal
-    ensures { result ≡ refusal_of unfilled }
+// What filling gives, as an answer; a list that was judged fits, and no frame is in trouble.
+fn answered(filled: Result<u32, Unfilled>) -> Answer
+    ensures { result ≡ answer_of filled }
 {
-    match unfilled {
-        Unfilled::Short(slots) => Refusal::Slots(slots),
-        Unfilled::Taken(signal) => Refusal::Taken(signal),
-        Unfilled::Unfit => Refusal::Taken(0),
+    match filled {
+        Ok(slots) => Ok(slots),
+        Err(Unfilled::Short(slots)) => Err(Refusal::Slots(slots)),
+        Err(Unfilled::Taken(signal)) => Err(Refusal::Taken(signal)),
+        Err(Unfilled::Unfit) => Err(Refusal::Taken(0)),
     }
 }

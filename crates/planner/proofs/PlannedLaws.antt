@@ -6,13 +6,13 @@ use mathlib.Core.Logic.{inl, inr}
 use Prim.Native.Nat.{ℕ}
 use native.Mathlib.Omega.{arith}
 use lib.ListN.{length}
-use Rattle.std.specs.Prelude.{Result, Ok, Err}
+use Rattle.std.specs.Prelude.{Result, Err}
 use Rattle.laws.specs.Rows.{Row, FirstRow, Hold}
 use Rattle.laws.specs.Lowest.{EachTo}
 use Rattle.laws.proofs.RowLaws.{pass, refused_front}
 use Rattle.terms.specs.declared.Settings.{Settings}
 use Rattle.terms.specs.declared.Refusal.{Refusal}
-use Rattle.terms.specs.Answers.{Answer, Answers}
+use Rattle.terms.specs.Answers.{Answers}
 use Rattle.terms.proofs.AnswersLaws.{refusal_numbered}
 use Rattle.terms.specs.Requests.{Request, PlanRoom}
 use Rattle.terms.specs.Ranges.{Repetition}

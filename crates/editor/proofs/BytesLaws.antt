@@ -20,7 +20,7 @@ use Rattle.book.specs.Words.{bytes_after}
 use Rattle.planner.specs.Rows.{lent_rows, Needed, signal_rows}
 use Rattle.planner.specs.Planned.{Planned}
 use Rattle.editor.specs.Rows.{result_bytes, bytes_rows}
-use Rattle.editor.specs.Private.{BytesPlanned}
+use Rattle.editor.specs.Private.{BytesPlanned, PlannedPut}
 
 -- cells for any settings, and words of results for any list
 pub record Enough (room : PlanRoom) : Type 0 where
@@ -66,3 +66,14 @@ module _ {x : Request} (lent : List ℕ) {w : ℕ} (low : LowestOutOfRange x.set
           let long : result_size * count x.list ≤ length exit.results =
           omega (arith, right.few, enough.results, shown.results.same_length) in
           record { answer = answer; refused = λ n. absurd (n z); done = λ y. (room, exit, shown, long, refl) }
+
+      -- its words put as bytes where it is done, and the bytes left where it is not
+      pub bytes_put : {b : Answer} {bytes : List ℕ}
+          → PlannedPut a (take (result_size * count x.list) exit.results) lent b bytes → BytesPlanned x lent b bytes
+      bytes_put put =
+          rw put.answer
+          (record {
+            answer = answer;
+            refused = put.refused;
+            done = λ z. rw (put.done z) ((bytes_done z).done z);
+          })

@@ -15,3 +15,9 @@ pub record BytesPlanned (x : Request) (lent : List ℕ) (a : Answer) (exit : Lis
   pub refused : (number_of a ≡ 0 → ⊥) → exit ≡ lent
   pub done : number_of a ≡ 0 → (blank room : PlanRoom) × PlanShown x blank room × (result_size * count x.list ≤ length room.results)
       × (exit ≡ bytes_after (take (result_size * count x.list) room.results) lent)
+
+-- what was planned is answered: where it is done the words are put as bytes, and a refusal leaves the bytes
+pub record PlannedPut (planned : Answer) (words lent : List ℕ) (a : Answer) (exit : List ℕ) : Type 0 where
+  pub answer : a ≡ planned
+  pub refused : (number_of planned ≡ 0 → ⊥) → exit ≡ lent
+  pub done : number_of planned ≡ 0 → exit ≡ bytes_after words lent

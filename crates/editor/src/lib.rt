@@ -5,7 +5,7 @@
 ghost use Rattle.terms.specs.Lists.{CountInRange};
 ghost use Rattle.terms.specs.Requests.{request};
 ghost use Rattle.editor.specs.Answered.{BookPlanned};
-ghost use Rattle.editor.specs.Private.{BytesPlanned};
+ghost use Rattle.editor.specs.Private.{BytesPlanned, PlannedPut};
 
 use terms::{Answer, MOST_CELLS, MOST_SIGNALS, RESULT_WORDS, Refusal, SIGNAL_WORDS, Settings};
 
@@ -34,7 +34,15 @@ fn plan_bytes(s: Settings, list: &[u32], results: &mut [u8]) -> Answer
     }
     let mut cells = [0; MOST_CELLS];
     let mut shown = [0; RESULT_WORDS * MOST_SIGNALS];
-    let slots = planner::plan(s, list, &mut cells, &mut shown)?;
-    book::put_words(&shown[..words], results);
+    let planned = planner::plan(s, list, &mut cells, &mut shown);
+    put_planned(planned, &shown[..words], results)
+}
+
+// Planning's answer, whose words are put as bytes where it is done; a refusal leaves the bytes.
+fn put_planned(planned: Answer, words: &[u32], results: &mut [u8]) -> Answer
+    ensures { PlannedPut planned words.now results.old result results.new }
+{
+    let slots = planned?;
+    book::put_words(words, results);
     Ok(slots)
 }

@@ -1,6 +1,6 @@
 -- `rule::keeps_at_base` meets its contract: the age found in each slot decides whether the bound is kept there.
 -- Assumes nothing.
-use Rattle.std.proofs.Common.{ℕ, ◌≡◌, ◌+◌, ◌↔◌, Option, IsSome, MatchOption, false, unwrap_or, nat_le, refl, rules}
+use Rattle.std.proofs.Common.{ℕ, ◌≡◌, ◌+◌, ◌↔◌, Option, IsSome, MatchOption, false, unwrap_or, nat_le, rules}
 use Rattle.laws.proofs.SaysLaws.{says_same}
 use Rattle.age.specs.AgeGiven.{frame_in, InRange, AgeGiven}
 use Rattle.age.proofs.FramesLaws.{frame_there}

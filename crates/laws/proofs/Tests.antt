@@ -44,3 +44,7 @@ below_within P f (suc n) s = joined (f n) (below f n) (s n (omega arith)) (below
     joined true true p q = λ k h. dite (ℕ_discrete k n) (λ e. rw e p) (λ m. q k (omega arith))
     joined true false p q = λ all. q (λ k h. all k (omega arith))
     joined false b p q = λ all. p (all n (omega arith))
+
+-- one that decides it at each number
+pub below_says : (P : ℕ → Type 0) (f : ℕ → Bool) → ((k : ℕ) → Says (P k) (f k)) → (n : ℕ) → Says ((k : ℕ) → k < n → P k) (below f n)
+below_says P f s n = below_within P f n (λ k h. s k)

@@ -27,7 +27,7 @@ fn entry(rt: &impl Print, unit: u32, share: &Share, slots: u32) -> io::Result<()
 // The line above the units.
 fn lead(rt: &impl Print, units: &Units) -> io::Result<()> {
     print!(rt; "<text x=\"64\" y=\"616\">")?;
-    if units.is_empty() {
+    if units.iter().all(Option::is_none) {
         return println!(rt; "No unit has a signal.</text>");
     }
     println!(rt; "Point at a frame for its signal, base, repetition, age and bound.</text>")
@@ -36,8 +36,10 @@ fn lead(rt: &impl Print, units: &Units) -> io::Result<()> {
 pub fn legend(rt: &impl Print, units: &Units, slots: u32) -> io::Result<()> {
     println!(rt; "<g font-size=\"12\">")?;
     lead(rt, units)?;
-    for (unit, share) in units {
-        entry(rt, *unit, share, slots)?;
+    for (unit, share) in (0..).zip(units) {
+        if let Some(share) = share {
+            entry(rt, unit, share, slots)?;
+        }
     }
     println!(rt; "</g>")
 }

@@ -13,7 +13,6 @@ use std::env::FillError;
 use std::io;
 use std::rt::Env;
 use terms::Refusal;
-use units::Units;
 
 fn help(rt: &impl Print) -> io::Result<()> {
     println!(rt; "picture: draws the plan of the static segment of one FlexRay channel.")?;
@@ -39,14 +38,16 @@ fn refuse(rt: &(impl Print + Eprint), refusal: Refusal) -> io::Result<()> {
     eprintln!(rt; "REFUSED {refusal}")
 }
 
-fn draw(rt: &impl Print, plan: &Plan, units: &Units) -> io::Result<()> {
+fn draw(rt: &impl Print, plan: &Plan) -> io::Result<()> {
     let slots = plan.settings.slots;
-    let last_rank = units.last_key_value().map_or(0, |(_, share)| share.rank);
+    let mut units = [None; 256];
+    units::units_of(plan, &mut units);
+    let last_rank = units::last_rank(&units);
     sheet::open(rt, sheet::width(slots), sheet::height(slots, last_rank))?;
     sheet::head(rt, plan)?;
     table::grid(rt, slots)?;
-    table::frames(rt, plan, units)?;
-    legend::legend(rt, units, slots)?;
+    table::frames(rt, plan, &units)?;
+    legend::legend(rt, &units, slots)?;
     println!(rt; "</svg>")
 }
 
@@ -56,7 +57,7 @@ fn main(rt: HostRuntime) -> io::Result<()> {
         return help(&rt);
     }
     match plans::of_input(rt.reader(), rt.alloc())? {
-        Ok(plan) => draw(&rt, &plan, &units::units_of(&plan, rt.alloc())?),
+        Ok(plan) => draw(&rt, &plan),
         Err(refusal) => refuse(&rt, refusal),
     }
 }

@@ -106,7 +106,7 @@ fn tell(rt: &impl Print, plan: &Plan, signal: u32) -> io::Result<()> {
 // The frame of a signal, in the colour of its unit.
 fn frame(rt: &impl Print, plan: &Plan, units: &Units, signal: u32) -> io::Result<()> {
     print!(rt; "<g")?;
-    if let Some(share) = units.get(&plan.signal(signal).unit) {
+    if let Some(Some(share)) = units.get(plan.signal(signal).unit as usize) {
         print!(rt; " {}", share.fill())?;
     }
     print!(rt; ">")?;

@@ -1,8 +1,6 @@
 // The units that have a signal: how many each has, its slots, and its colour.
 use crate::text::Fill;
 use plans::Plan;
-use std::alloc::{AllocError, Global};
-use std::collections::BTreeMap;
 
 // Sixteen colours that are told apart beside each other and upon white. A unit takes that of its rank among the units
 // with a signal, so that units side by side differ, whatever their numbers are.
@@ -32,25 +30,29 @@ impl Share {
     }
 }
 
-pub type Units = BTreeMap<u32, Share>;
+// Each unit's share by its number, in room of its own, so that a picture never fails for memory.
+pub type Units = [Option<Share>; 256];
 
-pub fn units_of(plan: &Plan, alloc: Global) -> Result<Units, AllocError> {
-    let mut units = BTreeMap::new(alloc);
+// The units of a plan into units that have none yet.
+pub fn units_of(plan: &Plan, units: &mut Units) {
     for signal in 1..=plan.signals {
         let slot = plan.result(signal).frame.slot;
-        let new = Share {
-            rank: 0,
-            signals: 0,
-            first: slot,
-            last: slot,
-        };
-        units
-            .entry(plan.signal(signal).unit)?
-            .or_insert(new)
-            .gains(slot);
+        if let Some(share) = units.get_mut(plan.signal(signal).unit as usize) {
+            let new = Share {
+                rank: 0,
+                signals: 0,
+                first: slot,
+                last: slot,
+            };
+            share.get_or_insert(new).gains(slot);
+        }
     }
-    for (rank, share) in (0..256).zip(units.values_mut()) {
+    for (rank, share) in (0..256).zip(units.iter_mut().flatten()) {
         share.rank = rank;
     }
-    Ok(units)
+}
+
+// The highest rank, or 0 where no unit has a signal.
+pub fn last_rank(units: &Units) -> u32 {
+    units.iter().flatten().last().map_or(0, |share| share.rank)
 }

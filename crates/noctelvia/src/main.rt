@@ -40,12 +40,13 @@ fn show(rt: &impl Print, plan: &Plan) -> io::Result<()> {
 }
 
 fn main(rt: HostRuntime) -> io::Result<()> {
+    let mut plan = plans::BLANK;
     // An argument, whatever its bytes.
     if !matches!(rt.arg(1, &mut []), Err(FillError::NotPresent)) {
         return help(&rt);
     }
-    match plans::of_input(rt.reader(), rt.alloc())? {
-        Ok(plan) => show(&rt, &plan),
+    match plans::of_input(rt.reader(), rt.alloc(), &mut plan)? {
+        Ok(()) => show(&rt, &plan),
         Err(refusal) => refuse(&rt, refusal),
     }
 }

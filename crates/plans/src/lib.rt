@@ -1,8 +1,9 @@
 // The whole plan of a book, as the programs show it: what was read, the cells of the table and each signal's result.
-// Promises: reading, then planning into room enough, so each book gets a plan or the first refusal of the two.
+// Promises: reading, then planning into room enough, so each book gets a plan or the first refusal of the two; a refusal
+// leaves the lent plan as it was.
 #![tactic(auto)]
 
-ghost use Rattle.std.specs.Prelude.{◌≡◌, ◌≢◌, get_or, unwrap_or, Some, IfOk, IfErr};
+ghost use Rattle.std.specs.Prelude.{◌≡◌, ◌≢◌, get_or, unwrap_or, Some, IfOk, IfErr, OnErr};
 ghost use Rattle.terms.specs.Lists.{signal_at};
 ghost use Rattle.terms.specs.Results.{result_at};
 ghost use Rattle.filling.specs.Shown.{cell_of};
@@ -15,7 +16,8 @@ use terms::{
     MOST_CELLS, MOST_SIGNALS, RESULT_WORDS, Refusal, SIGNAL_WORDS, Settings, Signal, SignalResult,
 };
 
-// A list and its plan, in arrays of the longest, so that a plan never fails for memory. Words past the signals' are 0.
+// A list and its plan, in arrays of the longest, so that a plan never fails for memory. Words of the list past the
+// signals' are 0; cells and results past those of the plan are as they were lent.
 #[derive(Clone, Copy)]
 pub struct Plan {
     pub settings: Settings,
@@ -26,25 +28,39 @@ pub struct Plan {
     pub results: [u32; RESULT_WORDS * MOST_SIGNALS],
 }
 
-pub fn of_book(book: &[u8]) -> Result<Plan, Refusal>
-    ensures done { IfOk result (PlanOfBook book.now) }
+// A plan to lend: nothing is planned, and every word is 0.
+pub const BLANK: Plan = Plan {
+    settings: Settings {
+        cycle: 0,
+        slot: 0,
+        slots: 0,
+        packing: 0,
+        payload: 0,
+    },
+    signals: 0,
+    used: 0,
+    list: [0; SIGNAL_WORDS * MOST_SIGNALS],
+    cells: [0; MOST_CELLS],
+    results: [0; RESULT_WORDS * MOST_SIGNALS],
+};
+
+// The plan of a book, put into the lent one and not handed over, which would cost the stack of another. The list stands
+// apart until it is planned, for the sake of a refusal.
+pub fn of_book(book: &[u8], plan: &mut Plan) -> Result<(), Refusal>
+    ensures done { IfOk result (λ _. PlanOfBook book.now plan.old plan.new) }
     ensures refused { IfErr result (RefusalOfBook book.now) }
+    ensures kept { OnErr result (plan.new ≡ plan.old) }
 {
     let mut list = [0; SIGNAL_WORDS * MOST_SIGNALS];
     let reading = book::read(book, &mut list)?;
     let (settings, signals) = (reading.settings, reading.signals);
-    let mut cells = [0; MOST_CELLS];
-    let mut results = [0; RESULT_WORDS * MOST_SIGNALS];
     let asked = &list[..SIGNAL_WORDS * signals as usize];
-    let used = planner::plan(settings, asked, &mut cells, &mut results)?;
-    Ok(Plan {
-        settings,
-        signals,
-        used,
-        list,
-        cells,
-        results,
-    })
+    let used = planner::plan(settings, asked, &mut plan.cells, &mut plan.results)?;
+    plan.settings = settings;
+    plan.signals = signals;
+    plan.used = used;
+    plan.list = list;
+    Ok(())
 }
 
 impl Plan {
@@ -74,12 +90,17 @@ impl Plan {
     }
 }
 
-// The plan of the book that is put in. One byte more than the longest book is read, so that a longer one is seen to be
-// too long.
-pub fn of_input(input: impl Read + Drop, alloc: Global) -> io::Result<Result<Plan, Refusal>>
-    ensures { IfOk result PlanOfSome }
+// The plan of the book that is put in, into the lent one. One byte more than the longest book is read, so that a longer
+// one is seen to be too long.
+pub fn of_input(
+    input: impl Read + Drop,
+    alloc: Global,
+    plan: &mut Plan,
+) -> io::Result<Result<(), Refusal>>
+    ensures given { IfOk result (λ r. PlanOfSome plan.old r plan.new) }
+    ensures failed { OnErr result (plan.new ≡ plan.old) }
 {
     let mut book = Vec::new(alloc);
     input.take(13313).read_to_end(&mut book)?;
-    Ok(of_book(&book))
+    Ok(of_book(&book, plan))
 }

@@ -11,6 +11,7 @@ pub mod FewestLaws
 pub mod Gathering
 pub mod Tallying
 pub mod SignalsLaws
+pub mod Beside
 pub mod Putting
 pub mod OrderedLaws
 pub mod StepLaws

@@ -27,6 +27,7 @@ impl Current {
     }
 
     // The slot that a frame goes to: the current one while that has a free cycle, else the next.
+    #[tactic(auto, using(crate::proofs::StepLaws::goes_kept))]
     fn goes_to(self) -> Current
         requires { self.begun < 2 ^ 32 - 1 }
         ensures { GoneTo self result }

@@ -1,15 +1,15 @@
 -- The loop that fills: what holds before each frame in the order of filling, how it goes on with a frame, and what is
 -- shown at its end.
 -- Assumes nothing.
-use mathlib.Core.Path.{◌≡◌, refl, ap, subst, ◌∙◌}
+use mathlib.Core.Path.{◌≡◌, refl, sym, ap, subst, ◌∙◌}
 use mathlib.Core.List.{List, [], ◌∷◌, ◌++◌, append-nil, append_assoc}
 use mathlib.Core.List.Memᴰ
 use mathlib.Core.List.{Memᴰ}
-use Prim.Native.Nat.{ℕ, ◌+◌, ◌*◌, ◌≤◌, ◌<◌}
+use Prim.Native.Nat.{ℕ, ◌+◌, ◌*◌, ◌-◌, ◌≤◌, ◌<◌}
 use native.Mathlib.Nat.{le_refl}
 use native.Mathlib.Omega.{arith}
 use lib.ListN.{length, get_or, take, drop, set, length-set, drop_of_length-le}
-use lib.Seq.{get_or-set_same, get_or-set_other, length-take-le}
+use lib.Seq.{get_or-set_same, get_or-set_other, get_or-take, length-take-le}
 use Rattle.std.specs.Prelude.{Some, None, Ok}
 use Rattle.std.proofs.lemmas.List.{drop_more}
 use Rattle.terms.specs.declared.Settings.{Settings}
@@ -24,7 +24,7 @@ use Rattle.filling.specs.Filled.{needed, frames_from, fill_from, filled}
 use Rattle.filling.specs.Shown.{CellsShow, ResultsShow}
 use Rattle.filling.specs.Ordered.{ordered}
 use Rattle.filling.specs.Outcomes.{repetition_in, Grouped}
-use Rattle.filling.specs.Private.{Holding, Stepped, Paintable, placed_at, FrameShown, Runnable, Ran, OrderedAll, repetition_of, current_in}
+use Rattle.filling.specs.Private.{Holding, Stepped, Paintable, placed_at, FrameShown, Runnable, Ran, FramesGiven, OrderedAll, repetition_of, current_in}
 use Rattle.filling.specs.Private.Stepped.{goes, trouble}
 use Rattle.filling.proofs.RunLaws.{Fits, goes_case, goes_next}
 use Rattle.filling.proofs.GroupLaws.{stepped, stepped_each, Untroubled}
@@ -40,6 +40,19 @@ use Rattle.filling.proofs.ShowLaws.{cells_more, results_more}
 
 no_trouble : {u k load : ℕ} {s : State} {f : UnitFrame} {c : Current} → Fits k load s f → Stepped u s f None c → ⊥
 no_trouble h (trouble n) = n (record { below = h.inside.frame.base; free = λ c l e. h.free c e })
+
+-- the words of the list's signals are such as gathering rests on
+pub frames_given : (signals : Signals) (m : ℕ) → m ≡ count signals.list.now → FramesGiven (take m signals.repetitions.now)
+frames_given signals m e =
+    let g = grouped_in signals in
+    let words = signals.repetitions.now in
+    let long = length-take-le m words (omega (arith, g.given)) in
+    record {
+      few = omega (arith, long, g.right.few);
+      seven = λ i b.
+          let same = get_or-take m words (i - 1) 0 (omega (arith, b, long)) in
+          subst Repetition (sym same) (g.seven i (omega (arith, b, long)));
+    }
 
 -- the frames that the code goes through are those of the list, in order
 pub in_order_all : (words : List ℕ) (m : ℕ) (array : List UnitFrame) → m ≤ length words

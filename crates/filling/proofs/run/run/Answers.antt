@@ -1,7 +1,10 @@
 -- `filling::run::run` meets its contract: each frame goes where filling places it, and is shown. Assumes nothing.
 use Rattle.std.proofs.Common.{arith}
-use Rattle.filling.proofs.FillLoop.{filling_none, filling_all, in_order_long, at_next}
+use Rattle.filling.proofs.FillLoop.{frames_given, filling_none, filling_all, in_order_long, at_next}
 use Rattle.filling.proofs.run.run.Goals as goal
+
+pub frames_in_order-frames-requires : goal.frames_in_order-frames-requires
+frames_in_order-frames-requires c = frames_given c.args.signals _ c.count-m.ensures
 
 pub loop-f-init : goal.loop-f-init
 loop-f-init c =

@@ -10,11 +10,11 @@ use terms::Settings;
 pub(crate) fn run(
     s: Settings,
     signals: Signals,
-    mut groups: [Current; GROUPS],
+    groups: &mut [Current; GROUPS],
     cells: &mut [u32],
     results: &mut [u32],
 ) -> Result<(), Unfilled>
-    requires { Runnable s signals groups cells.old results.old }
+    requires { Runnable s signals groups.old cells.old results.old }
     ensures { Ran s signals.entry cells.old results.old result cells.new results.new }
 {
     let m = terms::count(signals.list);

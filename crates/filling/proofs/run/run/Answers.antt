@@ -8,7 +8,7 @@ frames_in_order-frames-requires c = frames_given c.args.signals _ c.count-m.ensu
 
 pub loop-f-init : goal.loop-f-init
 loop-f-init c =
-    let none = filling_none _ _ _ _ c.args.groups c.requires (omega arith) in
+    let none = filling_none _ _ _ _ c.args.groups.now c.requires (omega arith) in
     record {
       filling = none;
       counted = c.count-m.ensures;

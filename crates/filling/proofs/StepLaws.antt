@@ -4,7 +4,7 @@
 use mathlib.Core.Path.{◌≡◌, refl, sym, ap, ◌∙◌}
 use mathlib.Core.Logic.{◌⊎◌, inl, inr, dite}
 use Prim.Native.Nat.{ℕ, ◌+◌, ◌%◌, ◌≤◌, ◌<◌, zero-le}
-use native.Mathlib.Decide.{dec_lt}
+use native.Mathlib.Decide.{dec_lt, ℕ_discrete}
 use native.Mathlib.Omega.{arith}
 use mathlib.Core.List.{List, []}
 use borrow.Author.Count.{below_more}
@@ -56,6 +56,14 @@ begun_next before all g c l here earlier =
     below_more (λ (h : ℕ). Holding h (start (before h)) (current_in (stored all g c) h)) g
     (λ h k. rw (get_or-set_other all g h c (current_in [] 0) (λ e. omega arith)) (earlier h k))
     (rw (get_or-set_same all g c (current_in [] 0) l) here)
+
+-- nothing is free in any group, with group g begun too
+pub nothing_free : {n : ℕ} (all : List Current) (g : ℕ) (c : Current) → g < length all → Holds (λ i. 1) c.slot.free
+    → ((h : ℕ) → h < n → Holds (λ i. 1) (current_in all h).slot.free)
+    → (h : ℕ) → h < n → Holds (λ i. 1) (current_in (stored all g c) h).slot.free
+nothing_free all g c l here each h k =
+    dite (ℕ_discrete h g) (λ e. rw (e, get_or-set_same all g c (current_in [] 0) l) here)
+    (λ d. rw (get_or-set_other all g h c (current_in [] 0) d) (each h k))
 
 -- ---- the slot that a frame goes to
 

@@ -2,7 +2,7 @@
 ghost use Rattle.std.specs.Prelude.{◌-◌, ◌^◌, ◌<◌};
 ghost use Rattle.terms.specs.Ranges.{Repetition};
 ghost use Rattle.filling.specs.Runs.{start};
-ghost use Rattle.filling.specs.Private.{Holding, GoneTo, StepOf};
+ghost use Rattle.filling.specs.Private.{Holds, Holding, GoneTo, StepOf};
 
 use crate::UnitFrame;
 use cycles::Slot;
@@ -24,6 +24,15 @@ impl Current {
             slot: Slot { unit, free: 0 },
             begun,
         }
+    }
+
+    // A group with nothing free is that of this unit, behind so many slots.
+    pub(crate) fn begin(&mut self, unit: u32, begun: u32)
+        requires { Holds (start begun).cycles self.old.slot.free }
+        ensures { Holding unit (start begun) self.new }
+    {
+        self.slot.unit = unit;
+        self.begun = begun;
     }
 
     // The slot that a frame goes to: the current one while that has a free cycle, else the next.

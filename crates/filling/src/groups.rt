@@ -65,7 +65,7 @@ impl<'a> Signals<'a> {
         let mut groups = [Current::start(0, 0); GROUPS];
         let mut needed = 0;
         for (g, tally) in self.loads().iter().enumerate() {
-            groups[g] = Current::start(g as u32, needed);
+            groups[g].begin(g as u32, needed);
             needed += tally.slots();
         }
         Starts { groups, needed }

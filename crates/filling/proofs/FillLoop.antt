@@ -7,11 +7,11 @@ use mathlib.Core.List.Memᴰ
 use mathlib.Core.List.{Memᴰ}
 use Prim.Native.Nat.{ℕ, ◌+◌, ◌*◌, ◌-◌, ◌≤◌, ◌<◌}
 use native.Mathlib.Nat.{le_refl}
+use native.Mathlib.Numerals.{add-one}
 use native.Mathlib.Omega.{arith}
 use lib.ListN.{length, get_or, take, drop, set, length-set, drop_of_length-le}
-use lib.Seq.{get_or-set_same, get_or-set_other, get_or-take, length-take-le}
+use lib.Seq.{get_or-set_same, get_or-set_other, get_or-take, length-take-le, drop-cons}
 use Rattle.std.specs.Prelude.{Some, None, Ok}
-use Rattle.std.proofs.lemmas.List.{drop_more}
 use Rattle.terms.specs.declared.Settings.{Settings}
 use Rattle.terms.specs.declared.Frame.{Frame}
 use Rattle.terms.specs.Ranges.{Repetition, FrameInRange}
@@ -35,7 +35,6 @@ use Rattle.filling.proofs.FilledLaws.{filled_own, filled_only, filled_untroubled
 use Rattle.filling.proofs.OrderLaws.{in_order_length}
 use Rattle.filling.proofs.Gathering.{frames_cut}
 use Rattle.filling.proofs.SignalsLaws.{grouped_in}
-use Rattle.filling.proofs.Putting.{nobody}
 use Rattle.filling.proofs.ShowLaws.{cells_more, results_more}
 
 no_trouble : {u k load : ℕ} {s : State} {f : UnitFrame} {c : Current} → Fits k load s f → Stepped u s f None c → ⊥
@@ -58,6 +57,14 @@ frames_given signals m e =
 pub in_order_all : (words : List ℕ) (m : ℕ) (array : List UnitFrame) → m ≤ length words
     → OrderedAll (take m words) array → take m array ≡ ordered (frames_from (repetition_in words) m 1)
 in_order_all words m array h e = rw (length-take-le m words h, frames_cut words m) at e
+
+-- the next frame, of those in front of an array
+pub next_frame : (list : List ℕ) (R : ℕ → ℕ) (array : List UnitFrame) (i : ℕ) (d : UnitFrame)
+    → take (count list) array ≡ frames list R → i < count list
+    → drop i (frames list R) ≡ get_or array i d ∷ drop (i + 1) (frames list R)
+next_frame list R array i d e h =
+    let inside : i < length (frames list R) = omega (arith, in_order_length R (count list)) in
+    rw (drop-cons (frames list R) i d inside, add-one i, sym e, get_or-take (count list) array i d h)
 
 -- ---- the loop
 
@@ -234,11 +241,19 @@ module _ (signals : Signals) (m : ℕ) (array : List UnitFrame) (e : m ≡ count
     in_order_long = ap length in_order ∙ in_order_length (repetition_of signals) (count signals.list.now)
 
     pub at_next : {s : Settings} {cells₀ results₀ cells results : List ℕ} {all₀ all : List Current} {i : ℕ}
-        → Runnable s signals all₀ cells₀ results₀ → Filling s signals cells₀ results₀ cells results all i
-        → i < length (take m array)
-        → AtFrame s signals cells₀ results₀ cells results all i (get_or (take m array) i nobody)
-    at_next {i = i} runs g h =
-        let inside : i < length in_turn = rw in_order at h in
-        rw in_order (
-        at_frame _ _ _ _ _ runs _ _ _ i g (omega (arith, in_order_long)) (get_or in_turn i nobody)
-        (drop_more in_turn i nobody inside))
+        → (d : UnitFrame) → Runnable s signals all₀ cells₀ results₀
+        → Filling s signals cells₀ results₀ cells results all i → i < m
+        → AtFrame s signals cells₀ results₀ cells results all i (get_or array i d)
+    at_next {i = i} d runs g h =
+        let before : i < count signals.list.now = omega (arith, e) in
+        at_frame _ _ _ _ _ runs _ _ _ i g before (get_or array i d)
+        (next_frame signals.list.now (repetition_of signals) array i d (rw e at in_order) before)
+
+    -- the same of the part of the array that they are
+    pub at_item : {s : Settings} {cells₀ results₀ cells results : List ℕ} {all₀ all : List Current} {i : ℕ}
+        → (d : UnitFrame) → Runnable s signals all₀ cells₀ results₀
+        → Filling s signals cells₀ results₀ cells results all i → i < length (take m array)
+        → AtFrame s signals cells₀ results₀ cells results all i (get_or (take m array) i d)
+    at_item {i = i} d runs g h =
+        let before : i < m = omega (arith, in_order_long, e) in
+        rw (get_or-take m array i d before) (at_next d runs g before)

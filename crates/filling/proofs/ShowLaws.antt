@@ -70,6 +70,10 @@ cleared slots entry cells h e =
       later = λ i l. grind (arith, common_steps, e);
     }
 
+-- cleared cells show nothing, whatever they were
+pub shown_none : {n : ℕ} {entry cells : List ℕ} → CellsShow n [] entry cells → CellsShow n [] cells cells
+shown_none g = record { same_length = refl; holds = g.holds; empty = g.empty; later = λ j l. refl }
+
 pub shown_then : {n : ℕ} {ps : List Placed} {entry cells exit : List ℕ}
     → CellsShow n [] entry cells → CellsShow n ps cells exit → CellsShow n ps entry exit
 shown_then g h =
@@ -89,6 +93,10 @@ module _ (f : Frame) (signal : ℕ) (entry : List ℕ) where
     pub reached : c ≡ f.base + times * f.repetition
     pub holds : (n : ℕ) → n < times → cell_of cells f.slot (f.base + n * f.repetition) ≡ signal
     pub others : (k d : ℕ) → 1 ≤ k → d < 64 → (Sends f k d → ⊥) → cell_of cells k d ≡ cell_of entry k d
+
+  pub painting_none : Painting entry f.base
+  painting_none =
+      record { same_length = refl; times = 0; reached = omega arith; holds = omega arith; others = omega arith }
 
   module _ (cells : List ℕ) (c : ℕ) (p : Painting cells c) where
     module _ (can : Paintable entry f) (small : c < 64) where

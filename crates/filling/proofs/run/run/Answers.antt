@@ -1,6 +1,6 @@
 -- `filling::run::run` meets its contract: each frame goes where filling places it, and is shown. Assumes nothing.
 use Rattle.std.proofs.Common.{arith}
-use Rattle.filling.proofs.FillLoop.{frames_given, filling_none, filling_all, in_order_long, at_next}
+use Rattle.filling.proofs.FillLoop.{frames_given, filling_none, filling_all, in_order_long, at_item}
 use Rattle.filling.proofs.run.run.Goals as goal
 
 pub frames_in_order-frames-requires : goal.frames_in_order-frames-requires
@@ -12,7 +12,7 @@ loop-f-init c =
     record {
       filling = none;
       counted = c.count-m.ensures;
-      next = at_next _ _ _ c.count-m.ensures c.frames_in_order-frames.ensures c.requires none;
+      next = at_item _ _ _ c.count-m.ensures c.frames_in_order-frames.ensures _ c.requires none;
     }
 
 pub returns-in_err-frame : goal.returns-in_err-frame
@@ -40,7 +40,7 @@ loop-f-preserved c =
     record {
       filling = on;
       counted = counted;
-      next = at_next _ _ _ counted c.frames_in_order-frames.ensures c.requires on;
+      next = at_item _ _ _ counted c.frames_in_order-frames.ensures _ c.requires on;
     }
 
 pub returns : goal.returns

@@ -57,6 +57,20 @@ module _ (P : ℕ → ℕ → Type 0) (entry : List ℕ) where
         later = λ j l. get_or-set_other exit n j x 0 (λ e. omega arith) ∙ f.later j (omega arith);
       }
 
+-- the first cells cleared one after the other
+abbrev pub Cleared : (entry cells : List ℕ) → ℕ → Type 0
+Cleared = Front (λ j x. x ≡ 0)
+
+pub clearing_all : (slots : ℕ) (entry cells : List ℕ) (j : ℕ) → Cleared entry cells j → j ≡ 64 * slots
+    → CellsShow slots [] entry cells
+clearing_all slots entry cells j f e =
+    record {
+      same_length = f.same_length;
+      holds = λ p k c m. absurd (Memᴰ.not-nil m);
+      empty = λ k c b l n. f.first (64 * (k - 1) + c) (omega arith);
+      later = λ i l. f.later i (omega arith);
+    }
+
 -- all cells of the slots 0, and those behind them as they were
 pub cleared : (slots : ℕ) (entry cells : List ℕ) → 64 * slots ≤ length entry
     → cells ≡ replicate (64 * slots) 0 ++ drop (64 * slots) entry → CellsShow slots [] entry cells

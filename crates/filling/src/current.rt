@@ -26,7 +26,8 @@ impl Current {
         }
     }
 
-    // A group with nothing free is that of this unit, behind so many slots.
+    // A group with nothing free begins as this unit's, behind so many slots. It is written where it stands, which costs
+    // less than to make it and copy it.
     pub(crate) fn begin(&mut self, unit: u32, begun: u32)
         requires { Holds (start begun).cycles self.old.slot.free }
         ensures { Holding unit (start begun) self.new }

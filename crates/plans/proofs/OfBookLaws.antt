@@ -11,7 +11,7 @@ use Rattle.terms.specs.declared.Refusal.{Refusal}
 use Rattle.terms.specs.Answers.{Answer, Answers}
 use Rattle.terms.specs.Lists.{signal_size, count}
 use Rattle.terms.specs.Results.{result_size}
-use Rattle.terms.specs.Requests.{Request, PlanRoom, request}
+use Rattle.terms.specs.Requests.{Request, PlanRoom, request, plan_room}
 use Rattle.book.specs.declared.Reading.{Reading}
 use Rattle.book.specs.Reading.{book_rows, settings_in, list_in}
 use Rattle.book.specs.Outcomes.{ReadOutcome}
@@ -19,7 +19,9 @@ use Rattle.book.proofs.ReadLaws.{read_gives}
 use Rattle.planner.specs.Rows.{Needed, planning_rows}
 use Rattle.planner.specs.Planned.{Planned}
 use Rattle.planner.proofs.Unique.{planning_numbered}
-use Rattle.plans.specs.OfBook.{asked_by, blank, RefusalOfBook}
+use Rattle.plans.specs.declared.Plan.{Plan}
+use Rattle.plans.specs.declared.TheConstants.{BLANK}
+use Rattle.plans.specs.OfBook.{asked_by, blank, PlanOfBook, RefusalOfBook}
 
 module _ {book entry exit : List ℕ} {x : Reading} (read : ReadOutcome book entry (Ok x) exit) {lent : PlanRoom} where
   pub planned_of_book : {a : Answer} {room : PlanRoom}
@@ -48,3 +50,8 @@ blank_enough x {lent} {used = used} planned =
     omega (arith, length-replicate {A = ℕ} (result_size * 600) 0) in
     pass [] (Needed x.settings x.list) 0 used (planning_rows x blank) (settings, (counted, (cells, (words, signals))))
     (refl, needed)
+
+-- in a lent plan of zeros all that lies behind the plan is 0
+pub blank_lent : {book : List ℕ} {p : Plan} → PlanOfBook book BLANK p
+    → Planned (asked_by book) blank (Ok p.used) (plan_room p.cells p.results)
+blank_lent h = h.planned

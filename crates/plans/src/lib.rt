@@ -1,6 +1,6 @@
 // The whole plan of a book, as the programs show it: what was read, the cells of the table and each signal's result.
-// Promises: reading, then planning into room enough, so each book gets a plan or the first refusal of the two; a refusal
-// leaves the lent plan as it was.
+// Promises: reading, then planning into room enough, so each book gets a plan or the first refusal of the two; a
+// refusal leaves the lent plan as it was.
 #![tactic(auto)]
 
 ghost use Rattle.std.specs.Prelude.{◌≡◌, ◌≢◌, get_or, unwrap_or, Some, IfOk, IfErr, OnErr};

@@ -33,6 +33,7 @@ pub fn repetition(s: Settings, x: Signal) -> Option<u32>
     ensures given { RepetitionGiven s x (unwrap_or result 0) }
     ensures some { IfSome result Repetition }
 {
+    // Once for all seven.
     if !terms::valid(s, x) {
         return None;
     }

@@ -1,5 +1,5 @@
 -- Laws of what the routines of this room give: outcomes that satisfy a contract are equal, an age that is given in
--- range is not 0, and a wait given of a frame's numbers makes its age.
+-- range is not 0, and a wait given of a frame's numbers makes its age, which is made of no other.
 use mathlib.Core.Path.{◌≡◌}
 use Prim.Native.Nat.{ℕ, ◌+◌, ◌-◌, ◌%◌, ◌≤◌, ◌<◌}
 use native.Mathlib.Nat.{mod-lt}

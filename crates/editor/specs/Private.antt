@@ -1,4 +1,4 @@
--- For private contracts alone: the plan of a list whose results are bytes, over what planning promises.
+-- For private contracts alone: the plan of a list whose results are bytes, over what planning promises, and those bytes put.
 use Rattle.std.specs.Prelude.{◌≡◌, List, ℕ, ◌*◌, ◌≤◌, length, take}
 use Rattle.terms.specs.Answers.{Answer, number_of, Answers}
 use Rattle.terms.specs.Requests.{Request, PlanRoom}

@@ -57,7 +57,7 @@ module _ (P : ℕ → ℕ → Type 0) (entry : List ℕ) where
         later = λ j l. get_or-set_other exit n j x 0 (λ e. omega arith) ∙ f.later j (omega arith);
       }
 
--- the first cells cleared one after the other
+-- the first cells cleared
 abbrev pub Cleared : (entry cells : List ℕ) → ℕ → Type 0
 Cleared = Front (λ j x. x ≡ 0)
 
@@ -77,12 +77,13 @@ pub cleared : (slots : ℕ) (entry cells : List ℕ) → 64 * slots ≤ length e
 cleared slots entry cells h e =
     let n = 64 * slots in
     let long = length-replicate {A = ℕ} n 0 in
-    record {
+    clearing_all slots entry cells n
+    (record {
       same_length = ap length e ∙ length-append (replicate n 0) (drop n entry) ∙ omega (arith, long, length-drop n entry);
-      holds = λ p k c m. absurd (Memᴰ.not-nil m);
-      empty = λ k c b l q. grind (arith, common_steps, e);
-      later = λ i l. grind (arith, common_steps, e);
-    }
+      first = λ j l. grind (arith, common_steps, e);
+      later = λ j l. grind (arith, common_steps, e);
+    })
+    refl
 
 -- cleared cells show nothing, whatever they were
 pub shown_none : {n : ℕ} {entry cells : List ℕ} → CellsShow n [] entry cells → CellsShow n [] cells cells

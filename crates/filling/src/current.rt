@@ -1,4 +1,5 @@
-// The slot of a group that is being filled: the slot that a frame goes to, and the step that places it there.
+// The slot of a group that is being filled: how the group begins, the slot that a frame goes to, and the step that places
+// it there.
 ghost use Rattle.std.specs.Prelude.{◌-◌, ◌^◌, ◌<◌};
 ghost use Rattle.terms.specs.Ranges.{Repetition};
 ghost use Rattle.filling.specs.Runs.{start};

@@ -27,7 +27,7 @@ use Rattle.filling.specs.Outcomes.{repetition_in, Fillable, FillOutcome}
 use Rattle.filling.specs.Outcomes.FillOutcome.{unfit, short, done}
 use Rattle.planner.specs.Rows.{Needed, slots_row, planning_rows}
 use Rattle.planner.specs.Planned.{Planned}
-use Rattle.planner.specs.Judged.{judged_rows, Found, answer_of}
+use Rattle.planner.specs.Judged.{judged_rows, Found, filled_answer}
 
 module _ (s : Settings) (list : List ℕ) (R : ℕ → ℕ) (r : Repetitions s list R) where
   -- where each signal's bound is kept, its repetition is one of the seven
@@ -82,7 +82,7 @@ module _ {x : Request} (lent : PlanRoom) where
     asked n p = pass (slots_row x.settings x.list ∷ []) (Needed x.settings x.list) n p (judged x lent) held
 
     pub planned_filled : {f : Result ℕ Unfilled} {exit : PlanRoom} → FillOutcome x words lent f exit
-        → Planned x lent (answer_of f) exit
+        → Planned x lent (filled_answer f) exit
     planned_filled (unfit n) = absurd (n fillable)
     planned_filled (short h l) =
         let over : (slots_row x.settings x.list).holds → ⊥ =

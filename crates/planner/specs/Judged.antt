@@ -36,8 +36,8 @@ judged_rows x cells results =
     lent_rows x cells results ++ (field_row x.settings x.list ∷ bound_row x.settings x.list ∷ [])
 
 -- planning's answer of what filling gives
-abbrev pub answer_of : Result ℕ Unfilled → Answer
-answer_of (Ok n) = Ok n
-answer_of (Err (Short n)) = Err (refusal.Slots n)
-answer_of (Err (Taken i)) = Err (refusal.Taken i)
-answer_of (Err Unfit) = Err (refusal.Taken 0)
+abbrev pub filled_answer : Result ℕ Unfilled → Answer
+filled_answer (Ok n) = Ok n
+filled_answer (Err (Short n)) = Err (refusal.Slots n)
+filled_answer (Err (Taken i)) = Err (refusal.Taken i)
+filled_answer (Err Unfit) = Err (refusal.Taken 0)

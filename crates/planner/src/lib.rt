@@ -5,7 +5,7 @@
 ghost use Rattle.terms.specs.Requests.{request, plan_room};
 ghost use Rattle.std.specs.Prelude.{◌≡◌};
 ghost use Rattle.planner.specs.Planned.{Planned};
-ghost use Rattle.planner.specs.Judged.{answer_of};
+ghost use Rattle.planner.specs.Judged.{filled_answer};
 
 use filling::Unfilled;
 use terms::{Answer, Refusal, Settings};
@@ -24,7 +24,7 @@ pub fn plan(s: Settings, list: &[u32], cells: &mut [u32], results: &mut [u32]) -
 
 // What filling gives, as an answer; a list that was judged fits, and no frame is in trouble.
 fn answered(filled: Result<u32, Unfilled>) -> Answer
-    ensures { result ≡ answer_of filled }
+    ensures { result ≡ filled_answer filled }
 {
     match filled {
         Ok(slots) => Ok(slots),

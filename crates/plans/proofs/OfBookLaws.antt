@@ -1,4 +1,5 @@
--- What is read of a book and what planning gives of it are the plan of the book.
+-- What is read of a book and what planning gives of it are the plan of the book; and what a plan in any lent room says of
+-- the blank one.
 -- Assumes nothing.
 use mathlib.Core.Path.{◌≡◌, refl}
 use mathlib.Core.List.{List, []}
